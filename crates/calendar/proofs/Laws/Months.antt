@@ -1,0 +1,65 @@
+-- Month lengths: what the table says of each month, and that the months fill the year.
+use mathlib.Core.Path.{_≡_, refl, sym, ap, _∙_}
+use mathlib.Core.Bool.{Bool, true, false, _&&_, cond}
+use mathlib.Core.List.{List, [], _∷_}
+use Prim.Native.Nat.{ℕ, zero, suc, _+_, _-_, _≤_, _<_}
+use native.Mathlib.Omega.{arith}
+use lib.Dec.{leb}
+use lib.IntN.{ℤ}
+use lib.ListN.{length, getD, List·getD-eq-default}
+use borrow.Author.Tests.{leb-true}
+use Rattle.calendar.specs.Years.{leapOf, yearLengthOf}
+use Rattle.calendar.specs.Months.{commonRow, leapRow, monthLengthOf}
+use Rattle.calendar.proofs.Laws.Bools.{both}
+
+-- A month's place in its row.
+pub month-at : (y : ℤ) (k : ℕ) → 1 ≤ k → monthLengthOf y k ≡ getD (cond (leapOf y) leapRow commonRow) (k - 1) 0
+unfolding monthLengthOf
+month-at y zero h = absurd (let z : _≡_ {A = ℕ} 0 1 = omega arith in omega arith)
+month-at y (suc k) h = ap (λ (m : ℕ). getD (cond (leapOf y) leapRow commonRow) m 0) (omega arith)
+
+-- There is no month 0 and none above 12.
+pub no-month-0 : (y : ℤ) (k : ℕ) → k ≡ 0 → monthLengthOf y k ≡ 0
+unfolding monthLengthOf
+no-month-0 y k e = ap (monthLengthOf y) e
+
+past : (leap : Bool) (k : ℕ) → 12 ≤ k → getD (cond leap leapRow commonRow) k 0 ≡ 0
+past true k h = List·getD-eq-default leapRow 0 h
+past false k h = List·getD-eq-default commonRow 0 h
+
+pub no-month-above : (y : ℤ) (k : ℕ) → 12 < k → monthLengthOf y k ≡ 0
+no-month-above y k h = month-at y k (omega arith) ∙ past (leapOf y) (k - 1) (omega arith)
+
+-- A rule of the table, by one computed test.
+within : ℕ → ℕ → List ℕ → Bool
+within low high [] = true
+within low high (x ∷ l) = (leb low x && leb x high) && within low high l
+
+at : (low high : ℕ) (l : List ℕ) → within low high l ≡ true → (k : ℕ) → k < length l → (low ≤ getD l k 0) × (getD l k 0 ≤ high)
+unfolding within
+at low high [] e k h = absurd (let z : _≡_ {A = ℕ} 0 1 = omega arith in omega arith)
+at low high (x ∷ l) e zero h =
+    let p = both (leb low x) (leb x high) (both (leb low x && leb x high) (within low high l) e .0) in
+    (leb-true low x (p .0), leb-true x high (p .1))
+at low high (x ∷ l) e (suc k) h = at low high l (both (leb low x && leb x high) (within low high l) e .1) k (omega arith)
+
+-- A month has 28 to 31 days.
+row-at : (leap : Bool) (k : ℕ) → k < 12 → (28 ≤ getD (cond leap leapRow commonRow) k 0) × (getD (cond leap leapRow commonRow) k 0 ≤ 31)
+unfolding within
+row-at true k h = at 28 31 leapRow refl k h
+row-at false k h = at 28 31 commonRow refl k h
+
+pub month-days : (y : ℤ) (k : ℕ) → 1 ≤ k → k ≤ 12 → (28 ≤ monthLengthOf y k) × (monthLengthOf y k ≤ 31)
+month-days y k l h = rw (month-at y k l) (row-at (leapOf y) (k - 1) (omega arith))
+
+-- The months of a year are its days.
+abbrev pub upToMonth : (ℕ → ℕ) → ℕ → ℕ
+upToMonth f zero = 0
+upToMonth f (suc k) = upToMonth f k + f (suc k)
+
+pub months-fill : (y : ℤ) → upToMonth (monthLengthOf y) 12 ≡ yearLengthOf y
+unfolding monthLengthOf yearLengthOf
+months-fill y = go (leapOf y) where
+  go : (leap : Bool) → upToMonth (λ k. getD (cond leap leapRow commonRow) (k - 1) 0) 12 ≡ cond leap 366 365
+  go true = refl
+  go false = refl

@@ -1,0 +1,110 @@
+-- A `Year` and its astronomical year: which number is which year, that no two numbers are one year, and the order.
+use mathlib.Core.Path.{_≡_, refl, sym, ap, subst, _∙_}
+use mathlib.Core.Bool.{Bool, true, false, _&&_, cond}
+use Prim.Native.Nat.{ℕ, suc, _+_, _-_, _*_, _%_, _/_, _≤_, _<_}
+use native.Mathlib.Omega.{arith}
+use lib.Dec.{leb}
+use lib.IntN.{ℤ, pos, negsuc, _+ℤ_, subℕ}
+use lib.Signed.{leZ, mag}
+use borrow.Author.Tests.{le-leb, lt-leb, leb-true, leb-false}
+use Rattle.calendar.specs.declared.years.Year.{Year}
+use Rattle.calendar.specs.declared.years.Astronomical.{Astronomical}
+use Rattle.calendar.specs.Years.{astronomicalOf, yearAt, in32}
+use Rattle.calendar.proofs.Laws.Integers as Z
+
+-- The number of the year 0000.
+abbrev pub zeroYear : ℕ
+zeroYear = 4294967600
+
+module _ (year : Year) where
+  -- the year k, and the year -(k + 1)
+  pub from-zero : (k : ℕ) → year .number ≡ zeroYear + k → astronomicalOf year ≡ pos k
+  unfolding astronomicalOf
+  from-zero k e = Z.is-pos (year .number) zeroYear k e
+
+  pub below-zero : (k : ℕ) → year .number + suc k ≡ zeroYear → astronomicalOf year ≡ negsuc k
+  unfolding astronomicalOf
+  below-zero k e = Z.is-neg (year .number) zeroYear k e
+
+  -- a law for a year, from one for each of the two
+  pub by-sign : (P : ℤ → Type 0) → ((k : ℕ) → year .number ≡ zeroYear + k → P (pos k)) → ((k : ℕ) → year .number + suc k ≡ zeroYear → P (negsuc k)) → P (astronomicalOf year)
+  unfolding astronomicalOf
+  by-sign P p n = Z.by-form P (year .number) zeroYear p n
+
+  -- a year is the number of years of its own, counted from a period's first
+  pub as-number : astronomicalOf year ≡ subℕ (year .number) (400 * 10737419)
+  unfolding astronomicalOf
+  as-number = refl
+
+same-test : (a b d e : ℕ) (t : Bool) → leb d e ≡ t → (d ≤ e → a ≤ b) → (e < d → b < a) → leb a b ≡ leb d e
+same-test a b d e true h p q = le-leb a b (p (leb-true d e h)) ∙ sym h
+same-test a b d e false h p q = lt-leb a b (q (leb-false d e h)) ∙ sym h
+
+-- Years are ordered as their numbers are.
+pub order : (a b : Year) → leZ (astronomicalOf a) (astronomicalOf b) ≡ leb (a .number) (b .number)
+order a b =
+    by-sign a (λ (x : ℤ). leZ x (astronomicalOf b) ≡ leb (a .number) (b .number))
+    (λ j p. by-sign b (λ (y : ℤ). leZ (pos j) y ≡ leb (a .number) (b .number))
+    (λ k q. same-test j k (a .number) (b .number) _ refl (λ h. omega arith) (λ h. omega arith))
+    (λ k q. sym (lt-leb (a .number) (b .number) (omega arith))))
+    (λ j p. by-sign b (λ (y : ℤ). leZ (negsuc j) y ≡ leb (a .number) (b .number))
+    (λ k q. sym (le-leb (a .number) (b .number) (omega arith)))
+    (λ k q. same-test k j (a .number) (b .number) _ refl (λ h. omega arith) (λ h. omega arith)))
+
+-- Years and astronomical years give each other back.
+pub year-back : (year : Year) → yearAt (astronomicalOf year) ≡ year
+unfolding yearAt
+year-back year =
+    by-sign year (λ (y : ℤ). yearAt y ≡ year)
+    (λ k e. λ i. record { number = sym e i })
+    (λ k e. let n : zeroYear - suc k ≡ year .number = omega arith in λ i. record { number = n i })
+
+pub year-at : (y : ℤ) → mag y < zeroYear → astronomicalOf (yearAt y) ≡ y
+unfolding yearAt
+year-at (pos k) h = from-zero (record { number = zeroYear + k }) k refl
+year-at (negsuc k) h = below-zero (record { number = zeroYear - suc k }) k (omega arith)
+
+-- Two years of one astronomical year are one year.
+pub one-number : (a b : Year) → astronomicalOf a ≡ astronomicalOf b → a .number ≡ b .number
+one-number a b e =
+    let self : leb (b .number) (b .number) ≡ true = le-leb (b .number) (b .number) (omega arith) in
+    let up : leb (a .number) (b .number) ≡ true = sym (order a b) ∙ ap (λ (x : ℤ). leZ x (astronomicalOf b)) e ∙ order b b ∙ self in
+    let down : leb (b .number) (a .number) ≡ true = sym (order b a) ∙ ap (λ (x : ℤ). leZ (astronomicalOf b) x) e ∙ order b b ∙ self in
+    omega (arith, leb-true (a .number) (b .number) up, leb-true (b .number) (a .number) down)
+
+pub one-year : (a b : Year) → astronomicalOf a ≡ astronomicalOf b → a ≡ b
+one-year a b e = λ i. record { number = one-number a b e i }
+
+-- 32 bits hold the years whose magnitude, `mag`, is below 2147483648 (of -(k + 1) it is k), ..
+pub in32-within : (y : ℤ) → mag y < 2147483648 → in32 y ≡ Astronomical.Within y
+unfolding in32
+in32-within (pos k) h = simp (le-leb k 2147483647 (omega arith))
+in32-within (negsuc k) h = simp (le-leb k 2147483647 (omega arith))
+
+pub in32-outside : (y : ℤ) → 2147483648 ≤ mag y → in32 y ≡ Astronomical.Outside
+unfolding in32
+in32-outside (pos k) h = simp (lt-leb k 2147483647 (omega arith))
+in32-outside (negsuc k) h = simp (lt-leb k 2147483647 (omega arith))
+
+-- .. which are those of the numbers 2147483952 to 6442451247
+module _ (year : Year) where
+  pub size-within : 2147483952 ≤ year .number → year .number ≤ 6442451247 → mag (astronomicalOf year) < 2147483648
+  size-within l h = by-sign year (λ (y : ℤ). mag y < 2147483648) (λ k e. omega arith) (λ k e. omega arith)
+
+  pub size-below : year .number < 2147483952 → 2147483648 ≤ mag (astronomicalOf year)
+  size-below l = by-sign year (λ (y : ℤ). 2147483648 ≤ mag y) (λ k e. absurd (let z : _≡_ {A = ℕ} 0 1 = omega arith in omega arith)) (λ k e. omega arith)
+
+  pub size-above : 6442451247 < year .number → 2147483648 ≤ mag (astronomicalOf year)
+  size-above l = by-sign year (λ (y : ℤ). 2147483648 ≤ mag y) (λ k e. omega arith) (λ k e. omega arith)
+
+-- A 32-bit year and its number.
+pub record Shifted (y : ℤ) : Type 0 where
+  pub number : ℕ
+  pub sum : y +ℤ pos zeroYear ≡ pos number
+  pub small : number ≤ 6442451247
+  pub back : subℕ number zeroYear ≡ y
+
+pub shifted : (y : ℤ) → mag y < 2147483648 → Shifted y
+shifted (pos k) h = record { number = k + zeroYear; sum = refl; small = omega arith; back = Z.is-pos (k + zeroYear) zeroYear k (omega arith) }
+shifted (negsuc k) h =
+    record { number = zeroYear - suc k; sum = Z.is-pos zeroYear (suc k) (zeroYear - suc k) (omega arith); small = omega arith; back = Z.is-neg (zeroYear - suc k) zeroYear k (omega arith) }
