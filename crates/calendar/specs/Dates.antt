@@ -11,6 +11,7 @@ use Rattle.calendar.specs.declared.dates.Date.{Date}
 unfoldable pub upTo : ℕ → ℕ → Bool
 upTo highest x = leb 1 x && leb x highest
 
+-- "the date has one of six forms": each field lies from 1 to the highest number that the year, or the month, has.
 abbrev pub existsOf : Date → Bool
 existsOf (Date.Y y) = true
 existsOf (Date.YM y month) = upTo 12 month

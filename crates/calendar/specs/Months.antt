@@ -6,13 +6,15 @@ use lib.ListN.{getD}
 use lib.IntN.{ℤ}
 use Rattle.calendar.specs.Years.{leapOf}
 
+-- The days of each month of a common year, ..
 abbrev pub commonRow : List ℕ
 commonRow = 31 ∷ 28 ∷ 31 ∷ 30 ∷ 31 ∷ 30 ∷ 31 ∷ 31 ∷ 30 ∷ 31 ∷ 30 ∷ 31 ∷ []
 
+-- .. and of a leap year.
 abbrev pub leapRow : List ℕ
 leapRow = 31 ∷ 29 ∷ 31 ∷ 30 ∷ 31 ∷ 30 ∷ 31 ∷ 31 ∷ 30 ∷ 31 ∷ 30 ∷ 31 ∷ []
 
--- The days of a month of year y: its place in the row counts from 0, and past the row's end it is 0.
+-- The days of month 1 to 12 of year y, and 0 for any other number: months count from 1, places in a row from 0.
 unfoldable pub monthLengthOf : ℤ → ℕ → ℕ
 monthLengthOf y zero = 0
 monthLengthOf y (suc m) = getD (cond (leapOf y) leapRow commonRow) m 0

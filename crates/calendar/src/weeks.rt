@@ -1,7 +1,8 @@
 ghost use mathlib.Core.Path.{_≡_};
 ghost use mathlib.Core.Bool.{cond};
 ghost use Rattle.calendar.specs.Years.{astronomicalOf};
-ghost use Rattle.calendar.specs.Weeks.{newYearWeekday, weeksOf};
+ghost use Rattle.calendar.specs.Integers.{remainder};
+ghost use Rattle.calendar.specs.Weeks.{newYear, weeksOf};
 use crate::years::Year;
 use crate::years::leap_year;
 
@@ -12,7 +13,7 @@ const THURSDAY: u64 = 3;
 // The weekday of 1 January of the year, Monday 0 to Sunday 6. The calendar repeats after 400 years, so it
 // is that of the year phase + 400, which the days of the phase + 399 years before it give.
 fn new_year_weekday(year: Year) -> u64
-    ensures { λ r. ⌜ r ≡ newYearWeekday (astronomicalOf year) ⌝ }
+    ensures { λ r. ⌜ r ≡ remainder (newYear (astronomicalOf year)) 7 ⌝ }
 {
     let phase = year.number % 400;
     let fours = (phase + 399) / 4;

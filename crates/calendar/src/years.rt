@@ -94,13 +94,13 @@ pub fn leap_year(year: Year) -> bool
     ensures { λ r. ⌜ r ≡ leapOf (astronomicalOf year) ⌝ }
 {
     let number = year.number;
-    if number % 400 == 0 {
-        return true;
-    }
-    if number % 100 == 0 {
+    if number % 4 != 0 {
         return false;
     }
-    number % 4 == 0
+    if number % 100 != 0 {
+        return true;
+    }
+    number % 400 == 0
 }
 
 // The days of the year, 365 or 366.

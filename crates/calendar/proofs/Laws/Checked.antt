@@ -10,8 +10,9 @@ use Rattle.calendar.specs.declared.dates.Date.{Date}
 use Rattle.calendar.specs.Integers.{quotient, remainder, divisible}
 use Rattle.calendar.specs.Years.{astronomicalOf, yearAt, leapOf, yearLengthOf}
 use Rattle.calendar.specs.Months.{monthLengthOf}
-use Rattle.calendar.specs.Weeks.{newYear, newYearWeekday, weekOf, weekOneOf, weeksOf}
+use Rattle.calendar.specs.Weeks.{daysOfYears, newYear, weekOf, weekOneOf, weeksOf}
 use Rattle.calendar.specs.Dates.{upTo, existsOf}
+use Rattle.calendar.proofs.Laws.Weeks.{newYearWeekday}
 
 -- a year, whether it is leap, its days, its weeks, and the weekday of its 1 January, Monday 0
 data YearRow : Type 0 where
@@ -61,7 +62,7 @@ yearsRight (year y leap days weeks weekday ∷ l) =
     Bool·beq (leapOf y) leap && eqb (yearLengthOf y) days && eqb (weeksOf y) weeks && eqb (newYearWeekday y) weekday && yearsRight l
 
 years-checked : yearsRight years ≡ true
-unfolding years yearsRight leapOf divisible remainder quotient yearLengthOf newYear newYearWeekday weekOf weekOneOf weeksOf
+unfolding years yearsRight leapOf divisible remainder quotient yearLengthOf daysOfYears newYear weekOf weekOneOf weeksOf
 years-checked = refl
 
 -- a date, and whether it exists
@@ -122,5 +123,5 @@ datesRight [] = true
 datesRight (date d exists ∷ l) = Bool·beq (existsOf d) exists && datesRight l
 
 dates-checked : datesRight dates ≡ true
-unfolding dates datesRight upTo astronomicalOf yearAt leapOf divisible remainder quotient yearLengthOf monthLengthOf newYear weekOf weekOneOf weeksOf
+unfolding dates datesRight upTo astronomicalOf yearAt leapOf divisible remainder quotient yearLengthOf monthLengthOf daysOfYears newYear weekOf weekOneOf weeksOf
 dates-checked = refl

@@ -5,11 +5,11 @@ use Prim.Native.Nat.{ℕ, suc, _+_, _-_, _*_, _/_, _%_, _≤_, _<_}
 use native.Mathlib.Nat.{mul-zero, mul-suc, mul-add-div, div-eq-of-lt, div-add-mod, mod-lt}
 use native.Mathlib.Omega.{arith}
 use lib.Dec.{eqb}
-use lib.IntN.{ℤ, pos, negsuc, _+ℤ_, _-ℤ_, _*ℤ_, subℕ}
+use lib.IntN.{ℤ, pos, negsuc, _+ℤ_, _-ℤ_, subℕ}
 use borrow.Author.Tests.{eqb-true, eqb-false}
-use Rattle.calendar.specs.Integers.{quotient, remainder, divisible}
+use Rattle.calendar.specs.Integers.{quotient, divisible}
 use Rattle.calendar.specs.Years.{leapOf, yearLengthOf}
-use Rattle.calendar.specs.Weeks.{newYear}
+use Rattle.calendar.specs.Weeks.{daysOfYears, newYear}
 use Rattle.calendar.proofs.Laws.Integers as Z
 
 -- A law for every year, from one for the years n + 1 - 400 m: each year is one of these.
@@ -56,12 +56,12 @@ module _ (n m : ℕ) where
   total a x y z h = Z.same (a + x + 4 * m + z) (365 * (400 * m) + 100 * m + y + m) (a + x - y + z) (146097 * m) (omega arith)
 
   pub days-at : newYear (subℕ (n + 1) (400 * m)) ≡ subℕ (daysOf n) (146097 * m)
-  unfolding newYear daysOf
+  unfolding newYear daysOfYears daysOf
   days-at =
       let fours = Z.quotient-of 4 (omega arith) n (400 * m) (100 * m) (omega arith) in
       let hundreds = Z.quotient-of 100 (omega arith) n (400 * m) (4 * m) (omega arith) in
       let periods = Z.quotient-of 400 (omega arith) n (400 * m) m refl in
-      ap (λ (y : ℤ). pos 365 *ℤ y +ℤ quotient y 4 -ℤ quotient y 100 +ℤ quotient y 400) before
+      ap daysOfYears before
       ∙ (λ i. Z.times 365 n (400 * m) i +ℤ fours i -ℤ hundreds i +ℤ periods i)
       ∙ ap (λ (z : ℤ). z -ℤ subℕ (n / 100) (4 * m) +ℤ subℕ (n / 400) m) (Z.add (365 * n) (365 * (400 * m)) (n / 4) (100 * m))
       ∙ ap (λ (z : ℤ). z +ℤ subℕ (n / 400) m) (Z.sub (365 * n + n / 4) (365 * (400 * m) + 100 * m) (n / 100) (4 * m))
@@ -115,7 +115,11 @@ module _ (n : ℕ) where
       rw (step 4 (omega arith) n _ refl, step 100 (omega arith) n _ refl, step 400 (omega arith) n _ refl)
       (sum (n / 4) (n / 100) (n / 400) _ _ _ _ (omega arith) (at-most-one (eqb ((n + 1) % 100) 0)) (by-tests _ _ _ refl refl refl))
 
--- "The day count grows by the year's length."
+-- The count starts at 1 January 0001, and grows by each year's length: so it is the count of days.
+pub starts : newYear (pos 1) ≡ pos 0
+unfolding newYear daysOfYears quotient
+starts = refl
+
 pub grows : (y : ℤ) → newYear (y +ℤ pos 1) ≡ newYear y +ℤ pos (yearLengthOf y)
 unfolding yearLengthOf
 grows =

@@ -1,15 +1,13 @@
 -- What the rules say of a year's number, for the code: the number counts from a year of the same phase.
-use mathlib.Core.Path.{_≡_, refl, sym, ap, _∙_}
-use mathlib.Core.Bool.{Bool}
+use mathlib.Core.Path.{_≡_, ap, _∙_}
 use Prim.Native.Nat.{ℕ, _+_, _*_, _/_, _%_}
 use native.Mathlib.Omega.{arith}
-use lib.IntN.{ℤ, subℕ}
+use lib.IntN.{subℕ}
 use Rattle.calendar.specs.declared.years.Year.{Year}
 use Rattle.calendar.specs.Years.{astronomicalOf, leapOf}
-use Rattle.calendar.specs.Weeks.{newYearWeekday}
 use Rattle.calendar.proofs.Laws.Integers.{same}
 use Rattle.calendar.proofs.Laws.Days.{leapNumber, leap-at, daysOf, days-period}
-use Rattle.calendar.proofs.Laws.Weeks.{weekday-at}
+use Rattle.calendar.proofs.Laws.Weeks.{newYearWeekday, weekday-at}
 
 -- a year of the second 400 and its number have one phase
 whole : (d k : ℕ) → (d + 146097 * k) % 7 ≡ d % 7

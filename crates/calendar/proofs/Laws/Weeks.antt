@@ -2,21 +2,24 @@
 use mathlib.Core.Path.{_≡_, refl, sym, ap, _∙_}
 use mathlib.Core.Bool.{Bool, true, false, _&&_, _||_, cond}
 use mathlib.Core.Logic.{_⊎_, inl, inr}
-use Prim.Native.Nat.{ℕ, suc, _+_, _-_, _*_, _/_, _%_, _≤_, _<_}
+use Prim.Native.Nat.{ℕ, _+_, _-_, _*_, _/_, _%_, _≤_}
 use native.Mathlib.Omega.{arith}
 use lib.Dec.{eqb}
 use lib.IntN.{ℤ, pos, natAbs, _+ℤ_, _-ℤ_, subℕ}
 use borrow.Author.Tests.{eqb-true, eqb-false}
 use Rattle.calendar.specs.Integers.{quotient, remainder}
 use Rattle.calendar.specs.Years.{leapOf}
-use Rattle.calendar.specs.Weeks.{newYear, newYearWeekday, weekOf, weekOneOf, weeksOf}
+use Rattle.calendar.specs.Weeks.{newYear, weekOf, weekOneOf, weeksOf}
 use Rattle.calendar.proofs.Laws.Integers as Z
 use Rattle.calendar.proofs.Laws.Days.{every-year, next, later, leapNumber, leap-at, daysOf, days-at, days-step, days-period, leap-period}
+
+-- The weekday of 1 January, Monday 0 to Sunday 6.
+abbrev pub newYearWeekday : ℤ → ℕ
+newYearWeekday y = remainder (newYear y) 7
 
 -- 400 years are 20871 weeks
 module _ (n m : ℕ) where
   pub weekday-at : newYearWeekday (subℕ (n + 1) (400 * m)) ≡ daysOf n % 7
-  unfolding newYearWeekday
   weekday-at = ap (λ (z : ℤ). remainder z 7) (days-at n m) ∙ Z.remainder-of 7 (omega arith) (daysOf n) (146097 * m) (20871 * m) (omega arith)
 
   week-one-at : weekOneOf (subℕ (n + 1) (400 * m)) ≡ subℕ ((daysOf n + 3) / 7) (20871 * m)
@@ -31,16 +34,33 @@ between : (a l : ℕ) → ℕ
 between a l = (a + l + 3) / 7 - (a + 3) / 7
 
 module _ (n m : ℕ) where
+  abbrev a : ℕ
+  a = (daysOf (n + 1) + 3) / 7
+
+  abbrev b : ℕ
+  b = (daysOf n + 3) / 7
+
+  up : b ≤ a
+  up = omega (arith, days-step n)
+
+  difference : weekOneOf (subℕ (n + 1) (400 * m) +ℤ pos 1) -ℤ weekOneOf (subℕ (n + 1) (400 * m)) ≡ pos (a - b)
+  difference =
+      ap (λ (z : ℤ). weekOneOf z -ℤ weekOneOf (subℕ (n + 1) (400 * m))) (next n m)
+      ∙ (λ i. week-one-at (n + 1) m i -ℤ week-one-at n m i)
+      ∙ Z.sub a (20871 * m) b (20871 * m)
+      ∙ Z.is-pos (a + 20871 * m) (20871 * m + b) (a - b) (omega (arith, up))
+
   weeks-at : weeksOf (subℕ (n + 1) (400 * m)) ≡ between (daysOf n) (cond (leapNumber (n + 1)) 366 365)
   unfolding weeksOf between
-  weeks-at =
-      let a = (daysOf (n + 1) + 3) / 7 in
-      let b = (daysOf n + 3) / 7 in
-      let up : b ≤ a = omega (arith, days-step n) in
-      ap (λ (z : ℤ). natAbs (weekOneOf z -ℤ weekOneOf (subℕ (n + 1) (400 * m)))) (next n m)
-      ∙ (λ i. natAbs (week-one-at (n + 1) m i -ℤ week-one-at n m i))
-      ∙ ap natAbs (Z.sub a (20871 * m) b (20871 * m) ∙ Z.is-pos (a + 20871 * m) (20871 * m + b) (a - b) (omega arith))
-      ∙ ap (λ (d : ℕ). (d + 3) / 7 - (daysOf n + 3) / 7) (days-step n)
+  weeks-at = ap natAbs difference ∙ ap (λ (d : ℕ). (d + 3) / 7 - (daysOf n + 3) / 7) (days-step n)
+
+  counted : weekOneOf (subℕ (n + 1) (400 * m) +ℤ pos 1) -ℤ weekOneOf (subℕ (n + 1) (400 * m)) ≡ pos (weeksOf (subℕ (n + 1) (400 * m)))
+  unfolding weeksOf
+  counted = difference ∙ sym (ap (λ (z : ℤ). pos (natAbs z)) difference)
+
+-- A year's weeks are counted from its week 01 up to that of the next year: the difference is never below 0.
+pub weeks-counted : (y : ℤ) → weekOneOf (y +ℤ pos 1) -ℤ weekOneOf y ≡ pos (weeksOf y)
+weeks-counted = every-year (λ (y : ℤ). weekOneOf (y +ℤ pos 1) -ℤ weekOneOf y ≡ pos (weeksOf y)) counted
 
 -- 53 weeks where 1 January is a Thursday, or a Wednesday in a leap year, and else 52.
 unfoldable pub weeksFrom : Bool → ℕ → ℕ

@@ -1,7 +1,7 @@
 -- A `Year` and its astronomical year: which number is which year, that no two numbers are one year, and the order.
-use mathlib.Core.Path.{_≡_, refl, sym, ap, subst, _∙_}
-use mathlib.Core.Bool.{Bool, true, false, _&&_, cond}
-use Prim.Native.Nat.{ℕ, suc, _+_, _-_, _*_, _%_, _/_, _≤_, _<_}
+use mathlib.Core.Path.{_≡_, refl, sym, ap, _∙_}
+use mathlib.Core.Bool.{Bool, true, false}
+use Prim.Native.Nat.{ℕ, suc, _+_, _-_, _≤_, _<_}
 use native.Mathlib.Omega.{arith}
 use lib.Dec.{leb}
 use lib.IntN.{ℤ, pos, negsuc, _+ℤ_, subℕ}
@@ -31,11 +31,6 @@ module _ (year : Year) where
   unfolding astronomicalOf
   by-sign P p n = Z.by-form P (year .number) zeroYear p n
 
-  -- a year is the number of years of its own, counted from a period's first
-  pub as-number : astronomicalOf year ≡ subℕ (year .number) (400 * 10737419)
-  unfolding astronomicalOf
-  as-number = refl
-
 same-test : (a b d e : ℕ) (t : Bool) → leb d e ≡ t → (d ≤ e → a ≤ b) → (e < d → b < a) → leb a b ≡ leb d e
 same-test a b d e true h p q = le-leb a b (p (leb-true d e h)) ∙ sym h
 same-test a b d e false h p q = lt-leb a b (q (leb-false d e h)) ∙ sym h
@@ -64,16 +59,12 @@ unfolding yearAt
 year-at (pos k) h = from-zero (record { number = zeroYear + k }) k refl
 year-at (negsuc k) h = below-zero (record { number = zeroYear - suc k }) k (omega arith)
 
--- Two years of one astronomical year are one year.
-pub one-number : (a b : Year) → astronomicalOf a ≡ astronomicalOf b → a .number ≡ b .number
-one-number a b e =
-    let self : leb (b .number) (b .number) ≡ true = le-leb (b .number) (b .number) (omega arith) in
-    let up : leb (a .number) (b .number) ≡ true = sym (order a b) ∙ ap (λ (x : ℤ). leZ x (astronomicalOf b)) e ∙ order b b ∙ self in
-    let down : leb (b .number) (a .number) ≡ true = sym (order b a) ∙ ap (λ (x : ℤ). leZ (astronomicalOf b) x) e ∙ order b b ∙ self in
-    omega (arith, leb-true (a .number) (b .number) up, leb-true (b .number) (a .number) down)
+pub year-is : (year : Year) (y : ℤ) → astronomicalOf year ≡ y → year ≡ yearAt y
+year-is year y e = sym (year-back year) ∙ ap yearAt e
 
+-- Two years of one astronomical year are one year.
 pub one-year : (a b : Year) → astronomicalOf a ≡ astronomicalOf b → a ≡ b
-one-year a b e = λ i. record { number = one-number a b e i }
+one-year a b e = year-is a (astronomicalOf b) e ∙ year-back b
 
 -- 32 bits hold the years whose magnitude, `mag`, is below 2147483648 (of -(k + 1) it is k), ..
 pub in32-within : (y : ℤ) → mag y < 2147483648 → in32 y ≡ Astronomical.Within y
