@@ -1,6 +1,5 @@
 ghost use mathlib.Core.Path.{_≡_};
-ghost use Rattle.calendar.specs.Dates.{existsOf};
-ghost use Rattle.calendar.specs.Dates.{upTo};
+ghost use Rattle.calendar.specs.Dates.{existsOf, upTo};
 use crate::months::month_length;
 use crate::weeks::weeks_in_year;
 use crate::years::Year;

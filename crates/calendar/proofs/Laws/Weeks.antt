@@ -99,16 +99,18 @@ unfolding weeksFrom
 fifty-two-or-three y = two (eqb (newYearWeekday y) 3 || eqb (newYearWeekday y) 2 && leapOf y) (weeksOf y) (thursday y)
 
 -- The period of 400 years.
+pub whole-weeks : (d k : ℕ) → (d + 146097 * k) % 7 ≡ d % 7
+whole-weeks d k = omega arith
+
 module _ (y : ℤ) (k : ℕ) where
   pub weekday-period : newYearWeekday (y +ℤ pos (400 * k)) ≡ newYearWeekday y
   weekday-period =
       every-year (λ (y : ℤ). newYearWeekday (y +ℤ pos (400 * k)) ≡ newYearWeekday y)
       (λ n m.
-      let whole : (daysOf n + 146097 * k) % 7 ≡ daysOf n % 7 = omega arith in
       ap newYearWeekday (later n m k)
       ∙ weekday-at (n + 400 * k) m
       ∙ ap (λ (d : ℕ). d % 7) (days-period n k)
-      ∙ whole
+      ∙ whole-weeks (daysOf n) k
       ∙ sym (weekday-at n m))
       y
 
