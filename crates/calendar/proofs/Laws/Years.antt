@@ -88,14 +88,14 @@ module _ (year : Year) where
   pub size-above : 6442451247 < year .number → 2147483648 ≤ mag (astronomicalOf year)
   size-above l = by-sign year (λ (y : ℤ). 2147483648 ≤ mag y) (λ k e. omega arith) (λ k e. omega arith)
 
--- A 32-bit year and its number.
-pub record Shifted (y : ℤ) : Type 0 where
+-- A 32-bit year moved up by k.
+pub record Shifted (k : ℕ) (y : ℤ) : Type 0 where
   pub number : ℕ
-  pub sum : y +ℤ pos zeroYear ≡ pos number
-  pub small : number ≤ 6442451247
-  pub back : subℕ number zeroYear ≡ y
+  pub sum : y +ℤ pos k ≡ pos number
+  pub small : number < k + 2147483648
+  pub back : subℕ number k ≡ y
 
-pub shifted : (y : ℤ) → mag y < 2147483648 → Shifted y
-shifted (pos k) h = record { number = k + zeroYear; sum = refl; small = omega arith; back = Z.is-pos (k + zeroYear) zeroYear k (omega arith) }
-shifted (negsuc k) h =
-    record { number = zeroYear - suc k; sum = Z.is-pos zeroYear (suc k) (zeroYear - suc k) (omega arith); small = omega arith; back = Z.is-neg (zeroYear - suc k) zeroYear k (omega arith) }
+pub shifted : (k : ℕ) (y : ℤ) → 2147483648 ≤ k → mag y < 2147483648 → Shifted k y
+shifted k (pos n) l h = record { number = n + k; sum = refl; small = omega arith; back = Z.is-pos (n + k) k n (omega arith) }
+shifted k (negsuc n) l h =
+    record { number = k - suc n; sum = Z.is-pos k (suc n) (k - suc n) (omega arith); small = omega arith; back = Z.is-neg (k - suc n) k n (omega arith) }

@@ -15,10 +15,10 @@ use Rattle.calendar.proofs.years.Year.astronomical.Statement.{statement
 use Rattle.calendar.proofs.years.Year.astronomical.Tie as tie
 
 returns : tie.Need-returns
-returns c = sym (in32-outside _ (size-below (c .before .args .self) (c .if1 .taken)))
+returns c = sym (in32-outside _ (size-below (c .before .args .self) (omega arith)))
 
 returns-2 : tie.Need-returns-2
-returns-2 c = sym (in32-outside _ (size-above (c .before .before .args .self) (c .if2 .taken)))
+returns-2 c = sym (in32-outside _ (size-above (c .before .before .args .self) (omega arith)))
 
 cast-t4 : tie.Need-cast-t4
 cast-t4 c = search needs
@@ -32,7 +32,7 @@ module _ (c : tie.Else2) where
   year = c .before .before .args .self
 
   size : mag (astronomicalOf year) < 2147483648
-  size = size-within year (c .before .if1 .left) (c .if2 .left)
+  size = size-within year (omega arith) (omega arith)
 
   fits : SFits w32 (astronomicalOf year)
   fits = record { sfits = size }
