@@ -1,6 +1,6 @@
-"""Reads the log of each must-fail edit that `rt ci` tried: the first error must be a fact that no longer
-holds. An edit that only made a proof file unfit for the code shows nothing. Prints nothing where all is
-well; otherwise prints each such edit and exits 1."""
+"""Reads the log of each must-fail edit that `rt ci` tried. An edit that only made a proof file unfit for the
+code shows nothing: its first error is one of the messages below, and it is printed, with exit 1. Otherwise
+nothing is printed. Whether any other first error is a fact that fails is for a reader to see."""
 
 import re
 import sys
@@ -29,7 +29,7 @@ def main():
         log = ROOT / "target/must-fail" / edit.parent.parent.name / edit.stem / ".log"
         error = first_error(log) if log.exists() else None
         if error is None or UNFIT.search(error):
-            bad.append(f"{edit.relative_to(ROOT)}: shows no fact that fails: {(error or 'no error')[:300]}")
+            bad.append(f"{edit.relative_to(ROOT)}: only unfits a proof file: {(error or 'no error')[:300]}")
     print("\n".join(bad), end="\n" if bad else "")
     sys.exit(1 if bad or not edits else 0)
 
