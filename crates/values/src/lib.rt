@@ -1,0 +1,19 @@
+// Types, values and texts: everything between a type's text and a value, and the lent room.
+pub mod forms;
+pub mod refusals;
+pub mod types;
+pub mod values;
+
+pub use forms::ClockForm;
+pub use forms::DateForm;
+pub use forms::Form;
+pub use forms::TimeForm;
+pub use forms::ZoneForm;
+pub use refusals::Refusal;
+pub use types::Type;
+pub use values::Clock;
+pub use values::Difference;
+pub use values::Spelling;
+pub use values::Time;
+pub use values::Value;
+pub use values::Zone;
