@@ -1,1 +1,10 @@
 -- The laws of types, values and texts.
+pub mod Reads
+pub mod Digits
+pub mod Fits
+pub mod Sizes
+pub mod Years
+pub mod Dates
+pub mod Times
+pub mod Texts
+pub mod Forms

@@ -1,6 +1,8 @@
 // Types, values and texts: everything between a type's text and a value, and the lent room.
 pub mod forms;
 pub mod refusals;
+mod steps;
+pub mod texts;
 pub mod types;
 pub mod values;
 

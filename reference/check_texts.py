@@ -1,0 +1,190 @@
+"""Checks settings.py and texts.py against hand-written cases from document 01's sentences and "Checked values"."""
+
+import sys
+
+from settings import Limits, NO_LIMITS, fraction_digits, is_refused, read_type, same_rows
+from texts import judge
+
+YEARS_2000_TO_2010 = Limits((2000, 2010), False)
+EMPTY_WINDOW = Limits((2010, 2000), False)
+NO_HOUR_24 = Limits(None, True)
+
+Y_BASIC = b"Basic=Date Date=Y Year=Basic"
+Y_PROLEPTIC = b"Basic=Date Date=Y Year=Proleptic"
+Y_NEGATIVE = b"Basic=Date Date=Y Year=Negative"
+Y_L5 = b"Basic=Date Date=Y Year=L5"
+YMD_PROLEPTIC = b"Basic=Date Date=YMD Year=Proleptic"
+YD_BASIC = b"Basic=Date Date=YD Year=Basic"
+YW_BASIC = b"Basic=Date Date=YW Year=Basic"
+YWD_BASIC = b"Basic=Date Date=YWD Year=Basic"
+H_L = b"Basic=Time Time=H Local-or-UTC=L"
+HM_LD = b"Basic=Time Time=HM Local-or-UTC=LD"
+HM_Z = b"Basic=Time Time=HM Local-or-UTC=Z"
+HF1_L = b"Basic=Time Time=HF1 Local-or-UTC=L"
+HMSF3_L = b"Basic=Time Time=HMSF3 Local-or-UTC=L"
+HMSF4_L = b"Basic=Time Time=HMSF4 Local-or-UTC=L"
+YW_T_HM_LD = b"Basic=Date-Time Date=YW Year=Basic Time=HM Local-or-UTC=LD"
+
+# limits, type, text, number, canonical text
+TEXTS = (
+    # "P DATE 2006-06-13: 05 58, 15 bits."
+    (NO_LIMITS, b"DATE", b"2006-06-13", 0, b"2006-06-13"),
+    # "P DATE 2004-02-29: BF C7 80, 19 bits."
+    (NO_LIMITS, b"DATE", b"2004-02-29", 0, b"2004-02-29"),
+    # "P TIME-OF-DAY 24:00:00: C0 00 00."
+    (NO_LIMITS, b"TIME-OF-DAY", b"24:00:00", 0, b"24:00:00"),
+    # "P 23:59:60: BF 7E 00."
+    (NO_LIMITS, b"TIME-OF-DAY", b"23:59:60", 0, b"23:59:60"),
+    # "24:00:01: 4."
+    (NO_LIMITS, b"TIME-OF-DAY", b"24:00:01", 4, None),
+    # "P DATE-TIME 2006-06-13T15:27:46: 05 58 F6 EE."
+    (NO_LIMITS, b"DATE-TIME", b"2006-06-13T15:27:46", 0, b"2006-06-13T15:27:46"),
+    # "P HMSF3 L 15:27:46.500: 7B 77 1F 40, 28 bits."; "The fraction's trailing zeros dropped" is an error
+    (NO_LIMITS, HMSF3_L, b"15:27:46.500", 0, b"15:27:46.500"),
+    # "P YW 2020-W53: 3F 40."
+    (NO_LIMITS, YW_BASIC, b"2020-W53", 0, b"2020-W53"),
+    # "P YW 2021-W53: 4."
+    (NO_LIMITS, YW_BASIC, b"2021-W53", 4, None),
+    # "Y Proleptic 0000: C0 40 00, 18 bits."
+    (NO_LIMITS, Y_PROLEPTIC, b"0000", 0, b"0000"),
+    # "DATE 1581-12-31: 5."
+    (NO_LIMITS, b"DATE", b"1581-12-31", 5, None),
+    # "P Y Negative -0128: 01 80."
+    (NO_LIMITS, Y_NEGATIVE, b"-0128", 0, b"-0128"),
+    # "P Y L5 +32767: 02 7F FF."
+    (NO_LIMITS, Y_L5, b"+32767", 0, b"+32767"),
+    # "HMSF4 .0999 takes the short fraction"
+    (NO_LIMITS, HMSF4_L, b"15:27:46.0999", 0, b"15:27:46.0999"),
+    # "DATE 2006-02-29: 4."
+    (NO_LIMITS, b"DATE", b"2006-02-29", 4, None),
+    # "DATE 1500-02-30: 4 before 5."
+    (NO_LIMITS, b"DATE", b"1500-02-30", 4, None),
+    # "Empty text: 3."
+    (NO_LIMITS, b"DATE", b"", 3, None),
+    # "Extended format, no quotation marks"
+    (NO_LIMITS, b"DATE", b"20060613", 3, None),
+    (NO_LIMITS, b"DATE", b'"2006-06-13"', 3, None),
+    # "`2006-164`, `2006-W24`, `2006-W24-2`"
+    (NO_LIMITS, YD_BASIC, b"2006-164", 0, b"2006-164"),
+    (NO_LIMITS, YWD_BASIC, b"2006-W24-2", 0, b"2006-W24-2"),
+    (NO_LIMITS, YW_BASIC, b"2006-W24-2", 3, None),
+    # "for Fn a `.` or `,` and exactly n digits"; "Canonical text (X.690 11.9): full stop for comma"
+    (NO_LIMITS, HMSF3_L, b"15:27:46,500", 0, b"15:27:46.500"),
+    (NO_LIMITS, HMSF3_L, b"15:27:46.50", 3, None),
+    # "a sign with two-digit hours and optionally `:` and minutes (LD)"; "the difference's minutes dropped when 0"
+    (NO_LIMITS, HM_LD, b"15:27+01:00", 0, b"15:27+01"),
+    (NO_LIMITS, HM_LD, b"15:27-05:30", 0, b"15:27-05:30"),
+    (NO_LIMITS, HM_LD, b"15:27", 3, None),
+    # "A date-time has `T` between."
+    (NO_LIMITS, YW_T_HM_LD, b"2006-W24T15:27-05:00", 0, b"2006-W24T15:27-05"),
+    (NO_LIMITS, YW_T_HM_LD, b"2006-W24 15:27-05:00", 3, None),
+    # "`-` and four digits not all 0, or a sign and five digits not beginning with 0, whichever Year the type names"
+    (NO_LIMITS, Y_NEGATIVE, b"-0000", 3, None),
+    (NO_LIMITS, Y_L5, b"+02006", 3, None),
+    (NO_LIMITS, Y_L5, b"-99999", 0, b"-99999"),
+    # "a year of another setting than the type's is refusal 5"
+    (NO_LIMITS, Y_BASIC, b"-0001", 5, None),
+    (NO_LIMITS, Y_NEGATIVE, b"+10000", 5, None),
+    # "Gregorian rule for all years, negative and 0000 too"
+    (NO_LIMITS, YMD_PROLEPTIC, b"0000-02-29", 0, b"0000-02-29"),
+    (NO_LIMITS, YMD_PROLEPTIC, b"-0001-02-29", 4, None),
+    # "Ordinal day 1 to 365 or 366."
+    (NO_LIMITS, YD_BASIC, b"2006-366", 4, None),
+    # "month 13, weekday 8 or hour 25 is 4"
+    (NO_LIMITS, b"DATE", b"2006-13-01", 4, None),
+    (NO_LIMITS, YWD_BASIC, b"2006-W24-8", 4, None),
+    (NO_LIMITS, H_L, b"25", 4, None),
+    # "at 24 all smaller fields and the fraction are 0"
+    (NO_LIMITS, HF1_L, b"24.0", 0, b"24.0"),
+    (NO_LIMITS, HF1_L, b"24.1", 4, None),
+    # "Seconds 0 to 60, second 60 in any minute."
+    (NO_LIMITS, b"TIME-OF-DAY", b"00:00:60", 0, b"00:00:60"),
+    (NO_LIMITS, b"TIME-OF-DAY", b"00:00:61", 4, None),
+    # "Difference hours 0 to 15, minutes 0 to 59; a zero difference has `+`, and `-00` is refusal 4."
+    (NO_LIMITS, HM_LD, b"15:27+15:59", 0, b"15:27+15:59"),
+    (NO_LIMITS, HM_LD, b"15:27-16", 4, None),
+    (NO_LIMITS, HM_LD, b"15:27+00:00", 0, b"15:27+00"),
+    (NO_LIMITS, HM_LD, b"15:27-00", 4, None),
+    # "`+00` and `Z` belong to different settings."
+    (NO_LIMITS, HM_Z, b"15:27+00", 3, None),
+    # "a lowest and a highest year (only where there is a date, else refusal 1)"
+    (YEARS_2000_TO_2010, b"DATE", b"2010-12-31", 0, b"2010-12-31"),
+    (YEARS_2000_TO_2010, b"DATE", b"2011-01-01", 5, None),
+    (YEARS_2000_TO_2010, b"TIME-OF-DAY", b"15:27:46", 1, None),
+    # ""no hour 24" (only where there is a time, else refusal 1)"
+    (NO_HOUR_24, b"TIME-OF-DAY", b"24:00:00", 5, None),
+    (NO_HOUR_24, b"DATE", b"2006-06-13", 1, None),
+    # "A lowest year above the highest makes a type with no values."
+    (EMPTY_WINDOW, b"DATE", b"2005-06-13", 5, None),
+)
+
+# type, number: 0 where the type is not refused
+TYPES = (
+    # "in any order"
+    (b"Year=Basic Date=YMD Basic=Date", 0),
+    # "each property at most once"
+    (b"Basic=Date Date=Y Year=Basic Year=Proleptic", 1),
+    # "pairs with one space between"
+    (b"Basic=Date  Date=Y Year=Basic", 1),
+    # "`Basic`: Date, Time, Date-Time. Always present."
+    (b"Date=Y Year=Basic", 1),
+    # "Both are present exactly when the value has a date."
+    (b"Basic=Date Date=Y", 1),
+    (b"Basic=Time Time=H Local-or-UTC=L Year=Basic", 1),
+    # "HFn, HMFn, HMSFn, with n from 1 to 9"
+    (b"Basic=Time Time=HMF9 Local-or-UTC=Z", 0),
+    (b"Basic=Time Time=HMF10 Local-or-UTC=Z", 1),
+    # "Two lists may differ only in Year, and then only as Basic with Proleptic or Negative with L5"
+    (Y_PROLEPTIC + b"|" + Y_BASIC, 0),
+    (Y_NEGATIVE + b"|" + Y_L5, 0),
+    (Y_BASIC + b"|" + Y_L5, 2),
+    # "two equal lists, are refusal 1; any other difference is 2"
+    (Y_BASIC + b"|Year=Basic Date=Y Basic=Date", 1),
+    (Y_BASIC + b"|" + YW_BASIC, 2),
+    # "A name stands alone; beside a bar it is refusal 1. So are three or more lists, and a space next to the bar."
+    (b"DATE|" + YMD_PROLEPTIC, 1),
+    (Y_BASIC + b"|" + Y_PROLEPTIC + b"|" + Y_L5, 1),
+    (Y_BASIC + b" |" + Y_PROLEPTIC, 1),
+    # "Centuries and intervals are no base types, and all their settings are refusal 1."
+    (b"Basic=Date Date=C Year=Basic", 1),
+    (b"Basic=Interval Interval-type=D", 1),
+)
+
+# type, type, same rows, their numbers of fraction digits
+ROWS = (
+    # "a name counts as its settings"
+    (b"DATE", b"Basic=Date Date=YMD Year=Basic", True, 0, 0),
+    # "either every Year of both is Basic or Proleptic, or none is"
+    (b"DATE", YMD_PROLEPTIC, True, 0, 0),
+    (Y_NEGATIVE, Y_L5, True, 0, 0),
+    (Y_BASIC + b"|" + Y_PROLEPTIC, Y_L5, False, 0, 0),
+    # "the same Time setting, n aside"; "A type's number of fraction digits is n, or 0 without Fn."
+    (HMSF3_L, HMSF4_L, True, 3, 4),
+    (b"TIME-OF-DAY", HMSF3_L, False, 0, 3),
+    # "the same Local-or-UTC"
+    (HM_LD, HM_Z, False, 0, 0),
+)
+
+
+def agree(found, expected, *what):
+    """Ends the program with a message when the two differ."""
+    if found != expected:
+        sys.exit("%s: found %r, expected %r" % (" ".join(map(str, what)), found, expected))
+
+
+def main():
+    """Ends with a message at the first disagreement; prints nothing when there is none."""
+    for limits, type_text, text, number, canonical in TEXTS:
+        agree(judge(type_text, limits, text), (number, canonical), limits, type_text, text)
+    for type_text, number in TYPES:
+        read = read_type(type_text)
+        agree(read if is_refused(read) else 0, number, type_text)
+    for first, second, same, first_digits, second_digits in ROWS:
+        a, b = read_type(first), read_type(second)
+        agree(same_rows(a, b), same, "same rows", first, second)
+        agree(same_rows(b, a), same, "same rows", second, first)
+        agree((fraction_digits(a), fraction_digits(b)), (first_digits, second_digits), "digits", first, second)
+
+
+if __name__ == "__main__":
+    main()

@@ -1,0 +1,164 @@
+"""Types of document 01, "What a type is": "A type is one settings list, or two with `|` between them"."""
+
+from collections import namedtuple
+
+# years is the set of each "Year setting that the type names"; time is the Time setting, "n aside", and digits its n
+Type = namedtuple("Type", "basic date years time digits zone name window no_hour_24")
+
+# "two restrictions that Table 2 doesn't look at": window is a lowest and a highest year, or None
+Limits = namedtuple("Limits", "window no_hour_24")
+
+NO_LIMITS = Limits(None, False)
+
+# "H, HM, HMS, HFn, HMFn, HMSFn, with n from 1 to 9"
+WHOLE_TIMES = (b"H", b"HM", b"HMS")
+FRACTION_TIMES = tuple(b"%sF%d" % (time, n) for time in WHOLE_TIMES for n in range(1, 10))
+
+# "Base settings"
+SETTINGS = {
+    b"Basic": (b"Date", b"Time", b"Date-Time"),
+    b"Date": (b"Y", b"YM", b"YMD", b"YD", b"YW", b"YWD"),
+    b"Year": (b"Basic", b"Proleptic", b"Negative", b"L5"),
+    b"Time": WHOLE_TIMES + FRACTION_TIMES,
+    b"Local-or-UTC": (b"L", b"Z", b"LD"),
+}
+
+# "The names DATE, TIME-OF-DAY and DATE-TIME may stand for their settings"
+NAMES = {
+    b"DATE": b"Basic=Date Date=YMD Year=Basic",
+    b"TIME-OF-DAY": b"Basic=Time Time=HMS Local-or-UTC=L",
+    b"DATE-TIME": b"Basic=Date-Time Date=YMD Year=Basic Time=HMS Local-or-UTC=L",
+}
+
+# "only as Basic with Proleptic or Negative with L5"
+YEARS_OF_ONE_ROW = ({b"Basic", b"Proleptic"}, {b"Negative", b"L5"})
+
+
+def has_date(settings):
+    """Whether "the value has a date"."""
+    return settings[b"Basic"] in (b"Date", b"Date-Time")
+
+
+def has_time(settings):
+    """Whether "the value has a time"."""
+    return settings[b"Basic"] in (b"Time", b"Date-Time")
+
+
+def read_pair(text):
+    """One of the "`Property=Setting` pairs"; None when it is unreadable, unknown or not in the base."""
+    name, _, setting = text.partition(b"=")
+    if setting not in SETTINGS.get(name, ()):
+        return None
+    return name, setting
+
+
+def is_complete(settings):
+    """"Always present", and "Both are present exactly when the value has" a date, or a time."""
+    if b"Basic" not in settings:
+        return False
+    date, time = has_date(settings), has_time(settings)
+    present = {b"Date": date, b"Year": date, b"Time": time, b"Local-or-UTC": time}
+    return all((name in settings) == expected for name, expected in present.items())
+
+
+def read_list(text):
+    """"pairs with one space between, in any order, each property at most once"; None for refusal 1."""
+    settings = {}
+    for pair in text.split(b" "):
+        read = read_pair(pair)
+        if read is None or read[0] in settings:
+            return None
+        settings[read[0]] = read[1]
+    return settings if is_complete(settings) else None
+
+
+def read_lists(text):
+    """"A name stands alone; beside a bar it is refusal 1. So are three or more lists, and a space next to the bar"."""
+    if text in NAMES:
+        return [read_list(NAMES[text])]
+    lists = [read_list(part) for part in text.split(b"|")]
+    if len(lists) > 2 or None in lists:
+        return None
+    return lists
+
+
+def limits_have_place(limits, lists):
+    """A window "only where there is a date", and "no hour 24" "only where there is a time", in every list."""
+    window_has_place = limits.window is None or all(has_date(settings) for settings in lists)
+    no_hour_24_has_place = not limits.no_hour_24 or all(has_time(settings) for settings in lists)
+    return window_has_place and no_hour_24_has_place
+
+
+def make_one_row(first, second):
+    """"Two lists may differ only in Year, and then only as Basic with Proleptic or Negative with L5"."""
+    others = (name for name in SETTINGS if name != b"Year")
+    alike = all(first.get(name) == second.get(name) for name in others)
+    return alike and {first.get(b"Year"), second.get(b"Year")} in YEARS_OF_ONE_ROW
+
+
+def word(setting):
+    """A setting as a word; None where the list lacks it."""
+    return None if setting is None else setting.decode("ascii")
+
+
+def split_time(setting):
+    """The Time setting "n aside", and its n, "or 0 without Fn"."""
+    if setting in FRACTION_TIMES:
+        return setting[:-1], int(setting[-1:])
+    return setting, 0
+
+
+def make_type(lists, name, limits):
+    """The type of one list, or of two that make one row."""
+    settings = lists[0]
+    time, digits = split_time(settings.get(b"Time"))
+    return Type(
+        basic=word(settings[b"Basic"]),
+        date=word(settings.get(b"Date")),
+        years=frozenset(word(each[b"Year"]) for each in lists if b"Year" in each),
+        time=word(time),
+        digits=digits,
+        zone=word(settings.get(b"Local-or-UTC")),
+        name=word(name),
+        window=limits.window,
+        no_hour_24=limits.no_hour_24,
+    )
+
+
+def read_type(text, limits=NO_LIMITS):
+    """The type, or 1 or 2: "two equal lists, are refusal 1; any other difference is 2"; "the lowest number is given"."""
+    lists = read_lists(text)
+    if lists is None or not limits_have_place(limits, lists):
+        return 1
+    if len(lists) == 2 and lists[0] == lists[1]:
+        return 1
+    if len(lists) == 2 and not make_one_row(*lists):
+        return 2
+    return make_type(lists, text if text in NAMES else None, limits)
+
+
+def is_refused(type_or_number):
+    """Whether read_type gave a number in place of a type."""
+    return isinstance(type_or_number, int)
+
+
+def years_are_alike(a, b):
+    """"either every Year of both is Basic or Proleptic, or none is"."""
+    four_digits = [year in ("Basic", "Proleptic") for year in (*a.years, *b.years)]
+    return all(four_digits) or not any(four_digits)
+
+
+def same_rows(a, b):
+    """"Two types select the same rows when they have the same Basic; the same Date setting, ..."; "restrictions don't count"."""
+    return (
+        a.basic == b.basic
+        and a.date == b.date
+        and years_are_alike(a, b)
+        and a.time == b.time
+        and a.zone == b.zone
+    )
+
+
+def fraction_digits(t):
+    """"A type's number of fraction digits is n, or 0 without Fn"."""
+    return t.digits

@@ -1,0 +1,292 @@
+"""Texts and values of document 01, "Texts" and "What exists": "Extended format, no quotation marks"."""
+
+from collections import namedtuple
+
+import gregorian
+from settings import is_refused, read_type
+
+# "A value is a date, a time, or a date with a time": what it lacks is None
+Value = namedtuple("Value", "date time")
+Date = namedtuple("Date", "form year fields")
+
+# fields are the hours, minutes and seconds that the form has; difference is there with LD
+Time = namedtuple("Time", "fields fraction zone difference")
+Fraction = namedtuple("Fraction", "number digits")
+Difference = namedtuple("Difference", "sign hours minutes")
+
+# what a text shows and its canonical text doesn't: a comma, and a difference's minutes when 0
+Spelling = namedtuple("Spelling", "comma zero_minutes")
+
+DIGITS = b"0123456789"
+SIGNS = b"+-"
+
+# what stands after the year: "`2006`, `2006-06`, `2006-06-13`, `2006-164`, `2006-W24`, `2006-W24-2`"
+DATE_FIELDS = {
+    "Y": (),
+    "YM": ((b"-", 2),),
+    "YMD": ((b"-", 2), (b"-", 2)),
+    "YD": ((b"-", 3),),
+    "YW": ((b"-W", 2),),
+    "YWD": ((b"-W", 2), (b"-", 1)),
+}
+
+# "two-digit fields with `:` between"
+TIME_FIELDS = {"H": 1, "HM": 2, "HMS": 3, "HF": 1, "HMF": 2, "HMSF": 3}
+
+# "Basic (1582 to 9999), Proleptic (0000 to 1581), Negative (-9999 to -0001), L5 (five digits after a sign, first digit not 0)"
+YEAR_RANGES = (
+    ("Basic", 1582, 9999),
+    ("Proleptic", 0, 1581),
+    ("Negative", -9999, -1),
+    ("L5", 10000, 99999),
+    ("L5", -99999, -10000),
+)
+
+
+class NotOfTheForm(Exception):
+    """"the text or the DER contents are not of the type's form"."""
+
+
+class Octets:
+    """A text, and the place up to which it is read."""
+
+    def __init__(self, text):
+        self.text = text
+        self.place = 0
+
+    def next_is(self, octets):
+        """Whether one of these octets comes next."""
+        return self.place < len(self.text) and self.text[self.place] in octets
+
+    def take(self, octets):
+        """Reads exactly these octets."""
+        end = self.place + len(octets)
+        if self.text[self.place:end] != octets:
+            raise NotOfTheForm
+        self.place = end
+
+    def take_one(self, octets):
+        """Reads one of these octets."""
+        if not self.next_is(octets):
+            raise NotOfTheForm
+        self.place += 1
+        return self.text[self.place - 1:self.place]
+
+    def take_digits(self, count):
+        """Reads a field of exactly so many digits; "a field of the right digit count is of the form at any number"."""
+        return int(b"".join(self.take_one(DIGITS) for _ in range(count)))
+
+    def count_digits(self):
+        """How many digits come next."""
+        end = self.place
+        while end < len(self.text) and self.text[end] in DIGITS:
+            end += 1
+        return end - self.place
+
+    def take_end(self):
+        """Nothing may be left."""
+        if self.place != len(self.text):
+            raise NotOfTheForm
+
+
+def read_year(octets):
+    """"four digits, `-` and four digits not all 0, or a sign and five digits not beginning with 0"."""
+    if not octets.next_is(SIGNS):
+        return octets.take_digits(4)
+    sign = octets.take_one(SIGNS)
+    count = octets.count_digits()
+    if count == 4 and sign == b"-":
+        return -read_not_all_zero(octets)
+    if count == 5 and not octets.next_is(b"0"):
+        number = octets.take_digits(5)
+        return -number if sign == b"-" else number
+    raise NotOfTheForm
+
+
+def read_not_all_zero(octets):
+    """"four digits not all 0"."""
+    number = octets.take_digits(4)
+    if number == 0:
+        raise NotOfTheForm
+    return number
+
+
+def read_date(octets, form):
+    """"the date has one of six forms"."""
+    year = read_year(octets)
+    fields = []
+    for mark, count in DATE_FIELDS[form]:
+        octets.take(mark)
+        fields.append(octets.take_digits(count))
+    return Date(form, year, tuple(fields))
+
+
+def read_fraction(octets, digits):
+    """"for Fn a `.` or `,` and exactly n digits"; and whether it was a comma."""
+    mark = octets.take_one(b".,")
+    return Fraction(octets.take_digits(digits), digits), mark == b","
+
+
+def read_difference(octets):
+    """"a sign with two-digit hours and optionally `:` and minutes"; and whether it had minutes that are 0."""
+    sign = octets.take_one(SIGNS)
+    hours = octets.take_digits(2)
+    if not octets.next_is(b":"):
+        return Difference(sign, hours, 0), False
+    octets.take(b":")
+    minutes = octets.take_digits(2)
+    return Difference(sign, hours, minutes), minutes == 0
+
+
+def read_time(octets, t):
+    """"a time is two-digit fields with `:` between, then for Fn" the fraction, "then nothing (L), `Z`, or" the difference."""
+    fields = [octets.take_digits(2)]
+    for _ in range(TIME_FIELDS[t.time] - 1):
+        octets.take(b":")
+        fields.append(octets.take_digits(2))
+    fraction, comma = read_fraction(octets, t.digits) if t.digits else (None, False)
+    difference, zero_minutes = None, False
+    if t.zone == "Z":
+        octets.take(b"Z")
+    if t.zone == "LD":
+        difference, zero_minutes = read_difference(octets)
+    return Time(tuple(fields), fraction, t.zone, difference), Spelling(comma, zero_minutes)
+
+
+def read_value(octets, t):
+    """The whole text at the type's form; "A date-time has `T` between"."""
+    date, time, spelling = None, None, Spelling(False, False)
+    if t.date:
+        date = read_date(octets, t.date)
+    if t.date and t.time:
+        octets.take(b"T")
+    if t.time:
+        time, spelling = read_time(octets, t)
+    octets.take_end()
+    return Value(date, time), spelling
+
+
+def read_text(t, text):
+    """The value and its spelling, "whichever Year the type names"; None when the text is not "of the type's form"."""
+    try:
+        return read_value(Octets(text), t)
+    except NotOfTheForm:
+        return None
+
+
+def date_exists(date):
+    """"Gregorian rule for all years, negative and 0000 too"."""
+    return gregorian.exists(date.form, date.year, *date.fields)
+
+
+def difference_exists(difference):
+    """"Difference hours 0 to 15, minutes 0 to 59; a zero difference has `+`, and `-00` is refusal 4"."""
+    if difference.sign == b"-" and difference.hours == 0:
+        return False
+    return difference.hours <= 15 and difference.minutes <= 59
+
+
+def time_of_day_exists(time):
+    """"Hours 0 to 24; at 24 all smaller fields and the fraction are 0. Minutes 0 to 59. Seconds 0 to 60"."""
+    smaller = list(time.fields[1:])
+    if time.fraction:
+        smaller.append(time.fraction.number)
+    if time.fields[0] == 24:
+        return not any(smaller)
+    return all(field <= highest for field, highest in zip(time.fields, (23, 59, 60)))
+
+
+def value_exists(value):
+    """The contrary of "no such date, time or difference"."""
+    if value.date and not date_exists(value.date):
+        return False
+    if value.time and not time_of_day_exists(value.time):
+        return False
+    return not (value.time and value.time.difference) or difference_exists(value.time.difference)
+
+
+def year_setting(year):
+    """The one Year setting that a year is of; None for a year of none."""
+    for setting, lowest, highest in YEAR_RANGES:
+        if lowest <= year <= highest:
+            return setting
+    return None
+
+
+def year_text(year):
+    """Four digits, `-` and four digits, or a sign and five digits."""
+    if 0 <= year <= 9999:
+        return b"%04d" % year
+    if -9999 <= year < 0:
+        return b"-%04d" % -year
+    return b"%+06d" % year
+
+
+def date_text(date):
+    """A date in the "Extended format"."""
+    text = year_text(date.year)
+    for (mark, count), field in zip(DATE_FIELDS[date.form], date.fields):
+        text += mark + b"%0*d" % (count, field)
+    return text
+
+
+def difference_text(difference):
+    """"the difference's minutes dropped when 0"."""
+    text = difference.sign + b"%02d" % difference.hours
+    if difference.minutes != 0:
+        text += b":%02d" % difference.minutes
+    return text
+
+
+def time_text(time):
+    """A time in the "Extended format"; "full stop for comma"."""
+    text = b":".join(b"%02d" % field for field in time.fields)
+    if time.fraction:
+        text += b".%0*d" % (time.fraction.digits, time.fraction.number)
+    if time.zone == "Z":
+        text += b"Z"
+    if time.zone == "LD":
+        text += difference_text(time.difference)
+    return text
+
+
+def canonical_text(value):
+    """"Canonical text (X.690 11.9): full stop for comma; the difference's minutes dropped when 0"."""
+    parts = []
+    if value.date:
+        parts.append(date_text(value.date))
+    if value.time:
+        parts.append(time_text(value.time))
+    return b"T".join(parts)
+
+
+def restrictions_are_met(t, value):
+    """"the type's restrictions are met": the year in the window, and not hour 24 where the type says so."""
+    if t.window and not t.window[0] <= value.date.year <= t.window[1]:
+        return False
+    return not (t.no_hour_24 and value.time.fields[0] == 24)
+
+
+def holds(t, value):
+    """"when the canonical text is of the type's form, each year is of a Year setting that the type names", and so on."""
+    if not value_exists(value) or read_text(t, canonical_text(value)) is None:
+        return False
+    if value.date and year_setting(value.date.year) not in t.years:
+        return False
+    return restrictions_are_met(t, value)
+
+
+def judge(type_text, limits, text):
+    """The number and, after 0, the canonical text: "When several hold, the lowest number is given. Success is 0"."""
+    t = read_type(type_text, limits)
+    if is_refused(t):
+        return t, None
+    read = read_text(t, text)
+    if read is None:
+        return 3, None
+    value, _ = read
+    if not value_exists(value):
+        return 4, None
+    if not holds(t, value):
+        return 5, None
+    return 0, canonical_text(value)

@@ -1,0 +1,700 @@
+"""Test lines on types and texts, and the replies that document 01 settles.
+
+`value_lines.py lines` writes the lines, `value_lines.py replies` reads such lines and writes a reply for each.
+
+`LIMITS;TYPE;TEXT` asks for the number of "The seven numbers" and, after 0, the canonical text. LIMITS is one octet of
+the menu below; TYPE ends at the second semicolon. `=;TYPE;TYPE` asks whether two types "select the same rows", and for
+their numbers of fraction digits. Any other line has the reply `?`. A line ends in a newline, and the last one need not.
+"""
+
+import itertools
+import sys
+
+from settings import Limits, NO_LIMITS, fraction_digits, is_refused, read_type, same_rows
+from texts import judge
+
+MENU = {
+    b"0": NO_LIMITS,
+    b"1": Limits((2000, 2010), False),
+    b"2": Limits((1582, 9999), False),
+    b"3": Limits((-9999, -1), False),
+    b"4": Limits((2010, 2000), False),
+    b"5": Limits((-2147483648, 2147483647), False),
+    b"6": Limits((0, 0), False),
+    b"7": Limits((-12000, 12000), False),
+    b"8": Limits(None, True),
+    b"9": Limits((2000, 2010), True),
+}
+
+WINDOWS = (b"1", b"2", b"3", b"4", b"5", b"6", b"7")
+
+# "Base settings"
+DATES = (b"Y", b"YM", b"YMD", b"YD", b"YW", b"YWD")
+YEARS = (b"Basic", b"Proleptic", b"Negative", b"L5")
+WHOLE_TIMES = (b"H", b"HM", b"HMS")
+TIMES = WHOLE_TIMES + tuple(b"%sF%d" % (time, n) for time in WHOLE_TIMES for n in range(1, 10))
+ZONES = (b"L", b"Z", b"LD")
+NAMES = (b"DATE", b"TIME-OF-DAY", b"DATE-TIME")
+
+# one list, or "Basic with Proleptic or Negative with L5"
+YEAR_CHOICES = (
+    (b"Basic",), (b"Proleptic",), (b"Negative",), (b"L5",),
+    (b"Basic", b"Proleptic"), (b"Proleptic", b"Basic"), (b"Negative", b"L5"), (b"L5", b"Negative"),
+)
+
+# a year of each setting
+A_YEAR = {b"Basic": b"2006", b"Proleptic": b"1066", b"Negative": b"-0044", b"L5": b"+12006"}
+
+# years of every shape
+YEAR_TEXTS = (
+    b"0000", b"0001", b"0004", b"0100", b"0400", b"0999", b"1000", b"1580", b"1581", b"1582", b"1583", b"1999",
+    b"2000", b"2006", b"2010", b"2011", b"9998", b"9999",
+    b"-0000", b"-0001", b"-0004", b"-0100", b"-0400", b"-2006", b"-9999",
+    b"+10000", b"-10000", b"+10001", b"-10001", b"+12000", b"-12000", b"+12001", b"-12001", b"+99999", b"-99999",
+    b"+02006", b"-02006", b"+00000", b"-00000", b"+2006", b"+0000", b"20060", b"02006", b"206", b"+206", b"-206",
+    b"6", b"-", b"+", b"--2006", b"+-2006", b"+100000", b"-100000", b"+012006", b" 2006", b"2006 ",
+)
+
+# years on both sides of each window's ends, and of each Year setting's
+YEARS_AT_WINDOWS = (
+    b"1999", b"2000", b"2005", b"2010", b"2011", b"1581", b"1582", b"9999", b"+10000", b"-10000", b"-9999", b"-0001",
+    b"0000", b"0001", b"-12001", b"-12000", b"+12000", b"+12001", b"+99999", b"-99999",
+)
+
+# what may stand after the year of each form, in any year
+DATE_TAILS = {b"Y": b"", b"YM": b"-06", b"YMD": b"-06-13", b"YD": b"-164", b"YW": b"-W24", b"YWD": b"-W24-2"}
+
+# octets that take another's place, or stand between two
+TEXT_OCTETS = [bytes([octet]) for octet in b"01259-+:.,/TZW \x00\x80\xFF"]
+TYPE_OCTETS = [bytes([octet]) for octet in b"059=| -DTYMHLZa\x00\xFF"]
+
+
+def line(limits, type_text, text):
+    """One line of the input, without its newline."""
+    return limits + b";" + type_text + b";" + text
+
+
+def date_type(date, *years):
+    """"one settings list, or two", of a date."""
+    return b"|".join(b"Basic=Date Date=%s Year=%s" % (date, year) for year in years)
+
+
+def time_type(time, zone):
+    """One settings list of a time."""
+    return b"Basic=Time Time=%s Local-or-UTC=%s" % (time, zone)
+
+
+def date_time_type(date, years, time, zone):
+    """"one settings list, or two", of a date with a time."""
+    settings = b"Basic=Date-Time Date=%s Year=%s Time=%s Local-or-UTC=%s"
+    return b"|".join(settings % (date, year, time, zone) for year in years)
+
+
+def time_text(time, fields, fraction=b"", zone=b"", mark=b"."):
+    """As many fields as the Time setting has, the first n digits of the fraction, and the zone as given."""
+    whole, _, n = time.partition(b"F")
+    text = b":".join(fields[:len(whole)])
+    if n:
+        text += mark + (fraction * 9)[:int(n)]
+    return text + zone
+
+
+def zone_texts(zone):
+    """Some texts of a zone: "nothing (L), `Z`, or a sign" with a difference."""
+    return {b"L": (b"",), b"Z": (b"Z",), b"LD": (b"+00", b"-05:30", b"+01:00", b"+15:59")}[zone]
+
+
+def good_dates():
+    """Each form of a date with each Year setting and each pair of lists."""
+    for date, years in itertools.product(DATES, YEAR_CHOICES):
+        for setting in YEARS:
+            yield line(b"0", date_type(date, *years), A_YEAR[setting] + DATE_TAILS[date])
+
+
+def good_times():
+    """Each form of a time, n from 1 to 9 included, with both marks of the fraction."""
+    for time, zone in itertools.product(TIMES, ZONES):
+        type_text = time_type(time, zone)
+        for zone_text in zone_texts(zone):
+            yield line(b"0", type_text, time_text(time, (b"15", b"27", b"46"), b"123456789", zone_text))
+        yield line(b"0", type_text, time_text(time, (b"00", b"00", b"00"), b"0", zone_texts(zone)[0], b","))
+        yield line(b"0", type_text, time_text(time, (b"23", b"59", b"60"), b"9", zone_texts(zone)[-1], b","))
+        yield line(b"0", type_text, time_text(time, (b"24", b"00", b"00"), b"0", zone_texts(zone)[-1]))
+
+
+def some_date_times():
+    """Each date form and choice of years with five of the times, and so every time with some date."""
+    times = list(itertools.product(TIMES, ZONES))
+    for k, (date, years) in enumerate(itertools.product(DATES, YEAR_CHOICES)):
+        for step in range(5):
+            yield (date, years) + times[(k + 19 * step) % len(times)]
+
+
+def good_date_times():
+    """Many date-times: "A date-time has `T` between"."""
+    for date, years, time, zone in some_date_times():
+        type_text = date_time_type(date, years, time, zone)
+        for setting, fields, fraction, mark in (
+            (years[0], (b"15", b"27", b"46"), b"502", b","),
+            (years[-1], (b"24", b"00", b"00"), b"0", b"."),
+        ):
+            date_text = A_YEAR[setting] + DATE_TAILS[date]
+            yield line(b"0", type_text, date_text + b"T" + time_text(time, fields, fraction, zone_texts(zone)[-1], mark))
+
+
+def checked_values():
+    """The texts of "Checked values"."""
+    for type_text, texts in (
+        (b"DATE", (b"2006-06-13", b"2004-02-29", b"2021-01-01", b"2276-12-31", b"1748-12-31", b"1581-12-31")),
+        (b"DATE", (b"2006-02-29", b"1500-02-30", b"")),
+        (b"TIME-OF-DAY", (b"24:00:00", b"23:59:60", b"24:00:01")),
+        (b"DATE-TIME", (b"2006-06-13T15:27:46", b"2006-06-13T24:00:00", b"2006-06-13T24:00:01")),
+        (time_type(b"HMSF3", b"L"), (b"15:27:46.500", b"15:27:46.5")),
+        (date_type(b"YW", b"Basic"), (b"2020-W53", b"2021-W53")),
+        (date_type(b"Y", b"Proleptic"), (b"0000",)),
+        (date_type(b"Y", b"Negative"), (b"-0128", b"-0129")),
+        (date_type(b"Y", b"L5"), (b"+32767", b"+32768")),
+        (time_type(b"HMSF4", b"L"), (b"15:27:46.0999", b"15:27:46.1000")),
+    ):
+        for text in texts:
+            yield line(b"0", type_text, text)
+
+
+def date_boundaries():
+    """Month, day, ordinal day, week and weekday below, at and above their ends, in years of every kind."""
+    years = (
+        (b"Basic", b"2000"), (b"Basic", b"2004"), (b"Basic", b"2006"), (b"Basic", b"1900"), (b"Basic", b"2020"),
+        (b"Basic", b"2009"), (b"Basic", b"2015"), (b"Basic", b"9999"), (b"Proleptic", b"0000"), (b"Proleptic", b"0001"),
+        (b"Proleptic", b"0004"), (b"Negative", b"-0001"), (b"Negative", b"-0004"), (b"Negative", b"-0100"),
+        (b"Negative", b"-0400"), (b"Negative", b"-9999"), (b"L5", b"+10000"), (b"L5", b"+99996"), (b"L5", b"-10000"),
+        (b"L5", b"-99999"), (b"Basic", b"1500"), (b"Negative", b"2006"),
+    )
+    for setting, year in years:
+        for month in (b"00", b"01", b"12", b"13", b"99"):
+            yield line(b"0", date_type(b"YM", setting), year + b"-" + month)
+        for day in (b"-00-01", b"-13-01", b"-02-00", b"-02-01", b"-02-28", b"-02-29", b"-02-30", b"-12-31", b"-12-32"):
+            yield line(b"0", date_type(b"YMD", setting), year + day)
+        for day in (b"000", b"001", b"365", b"366", b"367", b"999"):
+            yield line(b"0", date_type(b"YD", setting), year + b"-" + day)
+        for week in (b"00", b"01", b"52", b"53", b"54", b"99"):
+            yield line(b"0", date_type(b"YW", setting), year + b"-W" + week)
+        for week in (b"00-1", b"01-0", b"01-1", b"52-7", b"52-8", b"53-1", b"53-7", b"53-8", b"54-1"):
+            yield line(b"0", date_type(b"YWD", setting), year + b"-W" + week)
+
+
+def month_boundaries():
+    """The last days of every month of a common and of a leap year."""
+    for year, month, day in itertools.product((2006, 2008), range(14), (0, 1, 28, 29, 30, 31, 32, 99)):
+        yield line(b"0", b"DATE", b"%04d-%02d-%02d" % (year, month, day))
+
+
+def week_boundaries():
+    """Week 53 and ordinal day 366 of years far and near: a quotient must not be "cut toward zero"."""
+    years = [(b"Proleptic", b"%04d" % year) for year in range(30)]
+    years += [(b"Basic", b"%04d" % year) for year in range(1996, 2030)]
+    years += [(b"Negative", b"-%04d" % year) for year in range(1, 60)]
+    years += [(b"L5", b"%+d" % year) for year in (*range(-99999, -99984), *range(-10014, -9999), *range(10000, 10015))]
+    for setting, year in years:
+        yield line(b"0", date_type(b"YW", setting), year + b"-W53")
+        yield line(b"0", date_type(b"YD", setting), year + b"-366")
+
+
+def time_boundaries():
+    """Hours, minutes, seconds and fraction below, at and above their ends, and hour 24 with a smaller field not 0."""
+    hours = (b"00", b"23", b"24", b"25", b"99")
+    minutes = (b"00", b"01", b"59", b"60", b"99")
+    seconds = (b"00", b"01", b"59", b"60", b"61", b"99")
+    for limits, hour in itertools.product((b"0", b"8"), hours):
+        yield line(limits, time_type(b"H", b"L"), hour)
+        yield line(limits, time_type(b"HF1", b"Z"), hour + b".0Z")
+        yield line(limits, time_type(b"HF1", b"Z"), hour + b",1Z")
+        yield line(limits, time_type(b"HF9", b"LD"), hour + b".000000001+01")
+        for minute in minutes:
+            yield line(limits, time_type(b"HM", b"L"), hour + b":" + minute)
+            yield line(limits, time_type(b"HMF2", b"L"), hour + b":" + minute + b".00")
+            yield line(limits, time_type(b"HMF2", b"LD"), hour + b":" + minute + b",01-01")
+    for hour, minute, second in itertools.product(hours, minutes, seconds):
+        yield line(b"0", b"TIME-OF-DAY", hour + b":" + minute + b":" + second)
+        if hour in (b"23", b"24"):
+            yield line(b"8", time_type(b"HMSF3", b"Z"), hour + b":" + minute + b":" + second + b".000Z")
+            yield line(b"0", time_type(b"HMSF3", b"Z"), hour + b":" + minute + b":" + second + b".001Z")
+            yield line(b"0", b"DATE-TIME", b"2006-06-13T" + hour + b":" + minute + b":" + second)
+
+
+def fractions_at_hour_24():
+    """"at 24 all smaller fields and the fraction are 0", for every n and every place of the digit that is not 0."""
+    for time in TIMES:
+        whole, _, n = time.partition(b"F")
+        for place in range(int(n or b"0")):
+            fraction = b"0" * place + b"1" + b"0" * 9
+            yield line(b"0", time_type(time, b"L"), time_text(time, (b"24", b"00", b"00"), fraction))
+
+
+def differences():
+    """Signs, hours and minutes of differences, with hours and minutes that don't exist and with wrong shapes."""
+    types = (
+        (time_type(b"H", b"LD"), b"15"),
+        (time_type(b"HMSF1", b"LD"), b"15:27:46.5"),
+        (date_time_type(b"YMD", (b"Basic",), b"HM", b"LD"), b"2006-06-13T24:00"),
+    )
+    hours = (b"00", b"01", b"09", b"14", b"15", b"16", b"24", b"99")
+    minutes = (b"", b":00", b":01", b":30", b":59", b":60", b":99")
+    for (type_text, start), sign, hour, minute in itertools.product(types, (b"+", b"-"), hours, minutes):
+        yield line(b"0", type_text, start + sign + hour + minute)
+    wrong = (
+        b"", b"Z", b"+", b"-", b"+1", b"+001", b"+0100", b"+01:", b"+01:0", b"+01:000", b"+01:00:00", b"+01.00", b"+01 ",
+        b" +01", b"+ 01", b"++01", b"+-01", b"+01Z", b"Z+01", b"01", b"01:00", b":00", b"+1:00", b"+01-00", b"+01,00",
+        b"\xb101", b"\xe2\x88\x9201", b"+01:-1",
+    )
+    for (type_text, start), zone in itertools.product(types, wrong):
+        yield line(b"0", type_text, start + zone)
+
+
+def year_shapes():
+    """Years of every shape under every Year setting and every pair of lists, for every form."""
+    for years, year in itertools.product(YEAR_CHOICES, YEAR_TEXTS):
+        yield line(b"0", date_type(b"Y", *years), year)
+    for years, year in itertools.product(itertools.product(YEARS, YEARS), YEAR_TEXTS[::3]):
+        yield line(b"0", date_type(b"Y", *years), year)
+    for date, years, year in itertools.product(DATES[1:], (YEAR_CHOICES[0], YEAR_CHOICES[7]), YEAR_TEXTS):
+        yield line(b"0", date_type(date, *years), year + DATE_TAILS[date])
+    for years, year in itertools.product((YEAR_CHOICES[2], YEAR_CHOICES[4]), YEAR_TEXTS):
+        yield line(b"0", date_time_type(b"Y", years, b"H", b"Z"), year + b"T15Z")
+
+
+def years_in_windows():
+    """Years on both sides of each window's ends, under one list and under two."""
+    for limits, years, year in itertools.product(WINDOWS, YEAR_CHOICES[:5] + YEAR_CHOICES[7:], YEARS_AT_WINDOWS):
+        yield line(limits, date_type(b"Y", *years), year)
+    for limits, year in itertools.product(WINDOWS, YEARS_AT_WINDOWS):
+        yield line(limits, b"DATE", year + b"-02-28")
+
+
+def forms():
+    """A type and a text of it, for many forms."""
+    for date in DATES:
+        yield date_type(date, b"Basic"), b"2006" + DATE_TAILS[date]
+    for time, zone in itertools.product((b"H", b"HM", b"HMS", b"HF2", b"HMF2", b"HMSF2"), ZONES):
+        yield time_type(time, zone), time_text(time, (b"15", b"12", b"13"), b"24", zone_texts(zone)[-1])
+    yield time_type(b"HMSF3", b"L"), b"15:12:13.240"
+    for date, time, zone in ((b"Y", b"H", b"L"), (b"YM", b"H", b"LD"), (b"YMD", b"HMS", b"L"), (b"YD", b"HM", b"Z"),
+                             (b"YW", b"HF2", b"LD"), (b"YWD", b"HMSF2", b"Z")):
+        text = b"2006" + DATE_TAILS[date] + b"T" + time_text(time, (b"15", b"12", b"13"), b"24", zone_texts(zone)[-1])
+        yield date_time_type(date, (b"Basic",), time, zone), text
+    yield date_type(b"Y", b"L5"), b"+12006"
+    yield date_type(b"YM", b"Negative", b"L5"), b"-2006-12"
+
+
+def cross_table():
+    """Every text of each form read at every other form, and every number of fraction digits at every n."""
+    for (type_text, _), (_, text) in itertools.product(forms(), forms()):
+        yield line(b"0", type_text, text)
+    for n, digits in itertools.product(range(1, 10), range(11)):
+        yield line(b"0", time_type(b"HMF%d" % n, b"L"), b"15:27." + b"0123456789"[:digits])
+
+
+def deletions(octets):
+    """Every deletion of one octet."""
+    for place in range(len(octets)):
+        yield octets[:place] + octets[place + 1:]
+
+
+def replacements(octets, others):
+    """Every replacement of one octet, by the others and by itself with its third or first bit turned."""
+    for place in range(len(octets)):
+        turned = [bytes([octets[place] ^ 0x20]), bytes([octets[place] ^ 0x80])]
+        for other in others + turned:
+            yield octets[:place] + other + octets[place + 1:]
+
+
+def insertions(octets, others):
+    """Every insertion of one octet."""
+    for place, other in itertools.product(range(len(octets) + 1), others):
+        yield octets[:place] + other + octets[place:]
+
+
+def changed_texts():
+    """Texts with one octet less, another or more."""
+    ld, z = b"LD", b"Z"
+    texts = (
+        (date_type(b"Y", b"L5", b"Negative"), b"-12345"),
+        (date_type(b"Y", b"Negative"), b"-0010"),
+        (date_type(b"YM", b"Basic"), b"2006-10"),
+        (date_type(b"YM", b"Negative", b"L5"), b"+12006-11"),
+        (b"DATE", b"2006-10-29"),
+        (date_type(b"YD", b"Basic", b"Proleptic"), b"1600-359"),
+        (date_type(b"YW", b"Basic"), b"2020-W49"),
+        (date_type(b"YWD", b"Basic"), b"2026-W52-1"),
+        (b"TIME-OF-DAY", b"23:59:59"),
+        (time_type(b"H", ld), b"24+10"),
+        (time_type(b"HF2", z), b"24,00Z"),
+        (time_type(b"HM", ld), b"19:50-10:50"),
+        (time_type(b"HMSF3", b"L"), b"12:05:59.102"),
+        (date_time_type(b"YM", (b"Basic",), b"HF1", ld), b"2006-12T05.9-15:59"),
+        (date_time_type(b"YD", (b"L5",), b"HMF1", z), b"-10000-366T24:00.0Z"),
+    )
+    for type_text, text in texts:
+        for changed in itertools.chain([text], deletions(text), replacements(text, TEXT_OCTETS)):
+            yield line(b"0", type_text, changed)
+    inserted = [bytes([octet]) for octet in b"0-+:TZ\x00"]
+    for type_text, text in texts[2:3] + texts[4:5] + texts[9:10] + texts[13:]:
+        for changed in insertions(text, inserted):
+            yield line(b"0", type_text, changed)
+
+
+def changed_types():
+    """Type texts with one octet less, another or more."""
+    types = (
+        (b"DATE", b"2006-06-13"),
+        (b"TIME-OF-DAY", b"15:27:46"),
+        (b"DATE-TIME", b"2006-06-13T15:27:46"),
+        (date_type(b"Y", b"L5"), b"+12006"),
+        (b"Year=Basic Date=YD Basic=Date", b"2006-164"),
+        (time_type(b"HM", b"Z"), b"15:27Z"),
+        (b"Local-or-UTC=LD Time=HF1 Basic=Time", b"15.5+01:00"),
+        (date_type(b"Y", b"Basic", b"Proleptic"), b"1066"),
+    )
+    for type_text, text in types:
+        for changed in itertools.chain([type_text], deletions(type_text), replacements(type_text, TYPE_OCTETS)):
+            yield line(b"0", changed, text)
+    inserted = [bytes([octet]) for octet in b" |=1DM"]
+    for type_text, text in types[:2] + types[4:5] + types[7:]:
+        for changed in insertions(type_text, inserted):
+            yield line(b"0", changed, text)
+
+
+def every_octet():
+    """Every octet but the newline in the place of a digit, of a separator and of the space, and as LIMITS."""
+    for octet in (bytes([number]) for number in range(256) if number != 0x0A):
+        yield line(b"0", date_type(b"Y", b"Basic"), b"200" + octet)
+        yield line(b"0", time_type(b"HF1", b"L"), b"15" + octet + b"5")
+        yield line(b"0", b"Basic=Date" + octet + b"Date=Y Year=Basic", b"2006")
+        yield line(octet, b"DATE", b"2006-06-13")
+
+
+def long_texts():
+    """Texts of length 0 and of 266 to 5,000 octets."""
+    for type_text, _ in forms():
+        yield line(b"0", type_text, b"")
+    for type_text in NAMES + (date_type(b"Y", b"L5"), time_type(b"HMSF9", b"LD"), b"DATE|DATE"):
+        for text in (b"0" * 1000, b"2006-06-13" * 100, b" " * 5000, b"\x00" * 1024, b"\xff" * 1500):
+            yield line(b"0", type_text, text)
+    for text in (b"2006-06-13" + b" " * 256, b"2006-06-13" * 27, b"2006-06-13" + b"0" * 4000, b"0" * 4096 + b"2006-06-13"):
+        yield line(b"0", b"DATE", text)
+    for text in (b"+" + b"9" * 4999, b"-" + b"0" * 4000, b"+12006" + b"\x00" * 256, b"-" * 3000, b"+1" * 1500):
+        yield line(b"0", date_type(b"Y", b"L5"), text)
+    for text in (b"15:27:46." + b"5" * 4990, b"15:27:46.123456789+01:" + b"00" * 1000, b"15:" * 1000, b"Z" * 2000):
+        yield line(b"0", time_type(b"HMSF9", b"LD"), text)
+    yield line(b"0", b"DATE-TIME", b"2006-06-13" + b"T" * 1000 + b"15:27:46")
+    yield line(b"0", b"DATE-TIME", b"2006-06-13T15:27:46" * 200)
+
+
+def long_types():
+    """Type texts of length 0 and of 1,000 to 5,000 octets."""
+    y = date_type(b"Y", b"Basic")
+    both = date_type(b"Y", b"Basic", b"Proleptic")
+    types = (
+        b"", b"|" * 1000, b"|" * 5000, b" " * 5000, b"=" * 3000, b"\x00" * 1000, b"\xff" * 1000, b"DATE" * 1000,
+        b"DATE|" * 500, b"Basic=Date " * 400, b"Basic=Date" + b" Basic=Date" * 300, y + b" Year=Basic" * 300,
+        y + b" " * 2000, b" " * 2000 + y, b"Basic=Date" + b" " * 2000 + b"Date=Y Year=Basic", b"|".join([y] * 100),
+        b"|".join([both] * 40), both + b"|" * 1000, b"|" * 1000 + both, y + b"|" + b" " * 1000 + y,
+        b"Basic=Date Date=Y Year=L" + b"5" * 2000, b"Basic=Date Date=Y Year=" + b"Basic" * 500,
+        b"Basic=Date Date=Y" + b"\x00" * 1000 + b" Year=Basic", b"Basic" * 800 + b"=Date Date=Y Year=Basic",
+        b"Basic=Time Time=HMSF" + b"3" * 3000 + b" Local-or-UTC=L", b"Basic=Time Time=H Local-or-UTC=" + b"L" * 1000,
+        b"Basic=Time Time=HF" + b"0" * 1000 + b"1 Local-or-UTC=L", b"Basic" + b"=" * 1000 + b"Date Date=Y Year=Basic",
+        y + b" Midnight=Start" * 200, b"TIME-OF-DAY" + b"\x00" * 1000, b"DATE-TIME" + b" " * 1000,
+    )
+    for limits, type_text in itertools.product((b"0", b"4"), types):
+        yield line(limits, type_text, b"2006")
+
+
+def limited_types():
+    """Types for the limits: one list, two lists, names, and lists that don't make one row or are no lists."""
+    ymd, proleptic = date_type(b"YMD", b"Basic"), date_type(b"YMD", b"Proleptic")
+    hms, hmsz = time_type(b"HMS", b"L"), time_type(b"HMS", b"Z")
+    both = date_time_type(b"YMD", (b"Basic",), b"HMS", b"L")
+    return NAMES + (
+        ymd, hms, hmsz, both, ymd + b"|" + proleptic, date_type(b"YMD", b"Negative", b"L5"),
+        date_time_type(b"YMD", (b"Proleptic", b"Basic"), b"HMS", b"L"),
+        ymd + b"|" + hms, hms + b"|" + ymd, ymd + b"|" + both, both + b"|" + ymd, hms + b"|" + both, both + b"|" + hms,
+        hms + b"|" + hmsz, ymd + b"|" + date_type(b"YMD", b"L5"), both + b"|" + date_time_type(b"Y", (b"L5",), b"H", b"L"),
+        ymd + b"|" + ymd, hms + b"|" + hms, both + b"|" + both, b"DATE|" + ymd, b"", b"date",
+    )
+
+
+def limits_and_places():
+    """Each limit with and without its place, on values inside and outside it."""
+    texts = (
+        b"2006-06-13", b"1999-12-31", b"2006-02-30", b"15:27:46", b"24:00:00", b"24:00:01",
+        b"2006-06-13T15:27:46", b"2006-06-13T24:00:00", b"2011-06-13T24:00:00",
+    )
+    for limits in sorted(MENU):
+        for type_text, text in itertools.product(limited_types()[:10], texts):
+            yield line(limits, type_text, text)
+        for type_text, text in itertools.product(limited_types()[10:], (b"2006-06-13", b"")):
+            yield line(limits, type_text, text)
+
+
+def good_lists():
+    """Lists of each kind as tuples of pairs."""
+    return (
+        (b"Basic=Date", b"Date=YMD", b"Year=Basic"),
+        (b"Basic=Time", b"Time=HMSF3", b"Local-or-UTC=LD"),
+        (b"Basic=Date-Time", b"Date=YW", b"Year=Negative", b"Time=H", b"Local-or-UTC=Z"),
+    )
+
+
+def incomplete_types():
+    """Pairs left out, repeated and added: "missing, repeated or not in the base"."""
+    added = (
+        b"Basic=Date", b"Basic=Time", b"Basic=Date-Time", b"Date=Y", b"Date=YMD", b"Year=Basic", b"Year=L5", b"Time=H",
+        b"Time=HMSF3", b"Local-or-UTC=L", b"Local-or-UTC=Z", b"Midnight=Start", b"Midnight=End", b"Interval-type=SE",
+        b"SE-point=Date", b"Recurrence=Unlimited", b"Recurrence=R1", b"Date=C", b"Year=L6", b"DATE", b"", b"=", b"Year=",
+        b"=Basic", b"Year", b"Basic", b"Basic=", b"SETTINGS",
+    )
+    for pairs in good_lists():
+        for count in range(len(pairs)):
+            for some in itertools.combinations(pairs, count):
+                yield b" ".join(some)
+        for pair in added:
+            yield b" ".join(pairs + (pair,))
+            yield b" ".join((pair,) + pairs)
+        for basic in (b"Date", b"Time", b"Date-Time", b"Interval", b"Rec-Interval", b"DateTime", b"Basic", b"date", b""):
+            yield b" ".join((b"Basic=" + basic,) + pairs[1:])
+
+
+def unknown_settings():
+    """Settings that are unknown, or that X.680 has and the base hasn't."""
+    for date in (b"C", b"D", b"M", b"W", b"YY", b"MD", b"WD", b"YDM", b"YMDD", b"YWM", b"ymd", b"Date", b"YMD,", b""):
+        yield b"Basic=Date Date=%s Year=Basic" % date
+    for year in (b"L", b"L0", b"L4", b"L6", b"L7", b"L10", b"L05", b"L55", b"l5", b"N5", b"Large", b"basic", b"Gregorian",
+                 b"Basic,Proleptic", b"Basic|Proleptic", b"Basic/Proleptic", b"negative", b"Positive", b"2006", b""):
+        yield b"Basic=Date Date=Y Year=%s" % year
+    for time in (b"HF", b"HF0", b"HF10", b"HF01", b"HF1 ", b"HMF", b"HMF0", b"HMF10", b"HMSF", b"HMSF0", b"HMSF00",
+                 b"HMSF10", b"HMSF11", b"HMSF99", b"HMSFn", b"HMSFF3", b"HMSF3F", b"HMSF-1", b"HMSF+1", b"HMSF1.0",
+                 b"HMSF\xef\xbc\x93", b"HMSF\xb3", b"HSF3", b"MSF3", b"SF3", b"F3", b"HS", b"MS", b"M", b"S", b"hms", b"HMs",
+                 b"HMSf3", b"HMS3", b"H3", b"HMSS", b"Z", b"L", b""):
+        yield b"Basic=Time Time=%s Local-or-UTC=L" % time
+    for zone in (b"D", b"ZD", b"LZ", b"LDL", b"UTC", b"Local", b"l", b"z", b"ld", b"Ld", b"L,Z", b"+01", b""):
+        yield b"Basic=Time Time=HMS Local-or-UTC=%s" % zone
+    for name in (b"Local", b"UTC", b"Local-or-utc", b"Local-Or-UTC", b"LocalOrUTC", b"Local or UTC", b"Zone", b"Local-or-UTC "):
+        yield b"Basic=Time Time=HMS %s=L" % name
+
+
+def other_types_of_x_680():
+    """Centuries, intervals and other notations of X.680: "all their settings are refusal 1"."""
+    yield from (
+        b"Basic=Date Date=C Year=Basic", b"Basic=Date Date=C Year=Basic|Basic=Date Date=C Year=Proleptic",
+        b"Basic=Date Date=C Year=Negative|Basic=Date Date=C Year=L5", b"Date=C Year=Basic|Date=C Year=Proleptic",
+        b"Basic=Date Date=Y Year=Basic|Basic=Date Date=C Year=Basic", b"Basic=Date-Time Date=C Year=Basic Time=H Local-or-UTC=L",
+        b"Basic=Interval Interval-type=D", b"Basic=Interval Interval-type=SE SE-point=Date",
+        b"Basic=Interval Interval-type=SE SE-point=Time", b"Basic=Interval Interval-type=SE SE-point=Date-Time",
+        b"Basic=Interval Interval-type=SD SE-point=Date Date=YMD Year=Basic",
+        b"Basic=Interval Interval-type=DE SE-point=Time Time=HMS Local-or-UTC=L", b"Basic=Interval",
+        b"Basic=Interval Date=YMD Year=Basic", b"Basic=Interval Time=HMS Local-or-UTC=L",
+        b"Basic=Rec-Interval Interval-type=D", b"Basic=Rec-Interval Interval-type=SE SE-point=Date",
+        b"Basic=Rec-Interval Interval-type=SD SE-point=Date-Time Recurrence=Unlimited",
+        b"Basic=Rec-Interval Interval-type=DE SE-point=Time Recurrence=R3", b"Basic=Rec-interval", b"Basic=DateTime",
+        b"Midnight=Start", b"Midnight=End", b"Date=Y Year=Basic|Date=Y Year=Proleptic", b"Time=HMS Local-or-UTC=L",
+        b"TIME", b"DURATION", b"CENTURY", b"ANY-CENTURY", b"YEAR", b"ANY-YEAR", b"YEAR-MONTH-DAY", b"HOURS", b"MINUTES-UTC",
+        b"SECONDS-AND-FRACTION", b"START-END-DATE-INTERVAL", b"GeneralizedTime", b"UTCTime",
+        b'TIME(SETTINGS "Basic=Date Date=Y Year=Basic")', b'SETTINGS "Basic=Date Date=Y Year=Basic"',
+        b'"Basic=Date Date=Y Year=Basic"', b"(Basic=Date Date=Y Year=Basic)",
+        b'(SETTINGS "Basic=Date Date=Y Year=Basic")|(SETTINGS "Basic=Date Date=Y Year=Proleptic")',
+    )
+
+
+def misplaced_names():
+    """Names beside bars, with pairs, in other letters and with other octets around."""
+    pairs = {b"DATE": b"Year=Basic", b"TIME-OF-DAY": b"Time=HMS", b"DATE-TIME": b"Basic=Date-Time"}
+    for name in NAMES:
+        list_text = date_type(b"YMD", b"Proleptic")
+        yield from (name + b"|", b"|" + name, name + b"|" + name, name + b" | " + name, name + b"|" + list_text)
+        yield from (list_text + b"|" + name, name + b" " + pairs[name], pairs[name] + b" " + name, name + b" " + list_text)
+        yield from (name.lower(), name.title(), name.swapcase(), name + b" ", b" " + name, name + b" " + name, name + name)
+        yield from (name + b"\x00", name + b"\r", b"\t" + name, name[:-1], name + b"S", b"(" + name + b")", b"\xef\xbb\xbf" + name)
+        yield from (name + b"=", b"Basic=" + name, name.replace(b"-", b"_"), name.replace(b"-", b" "), name + b"||" + name)
+    yield from (b"DATE|TIME-OF-DAY", b"TIME-OF-DAY|DATE-TIME", b"DATE-TIME|DATE", b"DATE|TIME-OF-DAY|DATE-TIME", b"TIME-OF DAY")
+
+
+def misplaced_spaces():
+    """Double, leading and trailing spaces, spaces next to the bar and the equals sign, other octets for spaces."""
+    y, p = date_type(b"Y", b"Basic"), date_type(b"Y", b"Proleptic")
+    yield from (b" " + y, y + b" ", b" " + y + b" ", y.replace(b" ", b"  "), y.replace(b" ", b"  ", 1), y.replace(b" ", b""))
+    yield from (y + b" |" + p, y + b"| " + p, y + b" | " + p, b" " + y + b"|" + p, y + b"|" + p + b" ", y + b"|  " + p)
+    yield from (y.replace(b"=", b" ="), y.replace(b"=", b"= "), y.replace(b"=", b" = "), y.replace(b"=", b":"))
+    yield from (y.replace(b" ", other) for other in (b"\t", b"\r", b"\x0b", b"\x0c", b"\xa0", b"\xc2\xa0", b",", b", ", b"+", b"\x00"))
+    yield from (y + b"\r", y + b"\t", y + b"\x00", b"\x00" + y, b" ", b"  ", b" | ", b"| ", b" |", b"\t", y.lower(), y.upper())
+
+
+def wrong_bars():
+    """Empty lists, more than two lists, equal lists in other order."""
+    y, p, n, l5 = (date_type(b"Y", year) for year in YEARS)
+    yield from (b"|", b"||", b"|||", y + b"|", b"|" + y, y + b"||", y + b"||" + p, b"|" + y + b"|" + p, y + b"|" + p + b"|")
+    yield from (y + b"|" + p + b"|" + n, y + b"|" + p + b"|" + l5, y + b"|" + y + b"|" + y, y + b"|" + p + b"|" + y)
+    yield from (y + b"|" + n + b"|" + p, n + b"|" + l5 + b"|" + n, b"|".join((y, p, n, l5)), b"|".join((y, n, p, l5, y)))
+    for other, same in ((b"||", b"|"), (b"&", b"|"), (b"/", b"|"), (b"^", b"|"), (b"\xa6", b"|"), (b"UNION", b"|"), (b"!", b"|")):
+        yield (y + b"|" + p).replace(same, other)
+    for pairs in good_lists():
+        first = b" ".join(pairs)
+        for order in itertools.islice(itertools.permutations(pairs), 0, None, 1 if len(pairs) == 3 else 11):
+            yield first + b"|" + b" ".join(order)
+
+
+def ones_before_twos():
+    """Lists of other rows of which one or both are refused by themselves: "the lowest number is given"."""
+    y, hms = date_type(b"Y", b"Basic"), time_type(b"HMS", b"L")
+    refused = (
+        b"", b" ", b"Basic=Date Date=YM", b"Date=YM Year=L5", b"Basic=Date Date=YM Year=L6", b"Basic=Date Date=C Year=Basic",
+        b"Basic=Time Time=HMS", b"Basic=Time Time=HF0 Local-or-UTC=L", b"Basic=Interval Interval-type=D", b"DATE", b"TIME-OF-DAY",
+        b"Basic=Date Date=YM Year=L5 Year=L5", b"Basic=Date Date=YM Year=L5 ", b" Basic=Date Date=YM Year=L5", b"Basic",
+        b"Basic=Time Time=HMS Local-or-UTC=L Date=Y Year=L5", b"basic=Date Date=YM Year=L5", b"Basic=Date  Date=YM Year=L5",
+        b"Basic=Date Date=YM Year=L5 Midnight=Start", b"Basic=Date-Time Date=YM Year=L5 Time=H",
+    )
+    for good, bad in itertools.product((y, hms), refused):
+        yield good + b"|" + bad
+        yield bad + b"|" + good
+    yield from (first + b"|" + second for first, second in zip(refused, refused[1:]))
+
+
+def refused_types():
+    """Types with refusal 1 or 2, with texts that would be good, not of any form, or empty."""
+    for type_text in itertools.chain(incomplete_types(), unknown_settings(), other_types_of_x_680(), misplaced_names(),
+                                     misplaced_spaces(), wrong_bars(), ones_before_twos()):
+        yield line(b"0", type_text, b"2006")
+    for k, type_text in enumerate(itertools.chain(misplaced_names(), misplaced_spaces(), ones_before_twos())):
+        yield line((b"1", b"8")[k % 2], type_text, (b"", b"2006-06-13", b"x")[k % 3])
+
+
+def pairs_of_lists():
+    """Lists beside each other: equal, of one row, and of two."""
+    lists = [date_type(b"Y", year) for year in YEARS]
+    lists += [date_type(b"YMD", b"Basic"), date_type(b"YD", b"Proleptic"), date_type(b"YW", b"L5")]
+    lists += [time_type(b"HMS", b"L"), time_type(b"HMS", b"Z"), time_type(b"HMSF3", b"L"), time_type(b"HMSF4", b"L")]
+    lists += [date_time_type(b"Y", (year,), b"H", b"L") for year in YEARS]
+    lists += [date_time_type(b"Y", (b"Basic",), b"HF1", b"L"), date_time_type(b"Y", (b"Proleptic",), b"HF2", b"L")]
+    lists += [date_time_type(b"Y", (b"Proleptic",), b"H", b"Z"), date_time_type(b"YM", (b"Proleptic",), b"H", b"L")]
+    for first, second in itertools.product(lists, lists):
+        yield line(b"0", first + b"|" + second, b"1066")
+    for k, (first, second) in enumerate(itertools.product(lists[3:14], lists[3:14])):
+        yield line((b"1", b"8", b"9")[k % 3], first + b"|" + second, b"+12006")
+
+
+def all_orders():
+    """Pairs "in any order", in one list and in two."""
+    texts = (b"2006-06-13", b"15:27:46,500+01:00", b"-0044-W24T24Z")
+    for pairs, text in zip(good_lists(), texts):
+        for order in itertools.permutations(pairs):
+            yield line(b"0", b" ".join(order), text)
+    proleptic = (b"Basic=Date", b"Date=YMD", b"Year=Proleptic")
+    for first, second in itertools.product(itertools.permutations(good_lists()[0]), itertools.permutations(proleptic)):
+        yield line(b"0", b" ".join(first) + b"|" + b" ".join(second), b"1066-06-13")
+
+
+def compared_types():
+    """Types for the question whether two "select the same rows"."""
+    years = ((b"Basic",), (b"Proleptic",), (b"L5",), (b"Proleptic", b"Basic"), (b"Negative", b"L5"))
+    types = list(NAMES)
+    types += [date_type(b"YMD", *choice) for choice in years]
+    types += [date_type(b"YW", b"Basic"), date_type(b"YWD", b"Negative"), b"Year=Basic Basic=Date Date=YMD"]
+    types += [time_type(b"HMS", b"L"), time_type(b"HMS", b"LD"), time_type(b"HM", b"L")]
+    types += [time_type(b"HF1", b"L"), time_type(b"HF9", b"L"), time_type(b"HMSF3", b"L"), time_type(b"HMSF3", b"Z")]
+    types += [date_time_type(b"YMD", choice, b"HMS", b"L") for choice in years]
+    types += [date_time_type(b"YMD", (b"Basic",), b"HMSF2", b"L"), date_time_type(b"YMD", (b"Basic",), b"HMSF7", b"L")]
+    types += [date_time_type(b"YD", (b"Basic",), b"HMS", b"L"), date_time_type(b"YMD", (b"L5",), b"HMS", b"Z")]
+    types += [b"", b"DATE|DATE", date_type(b"Y", b"Basic", b"L5"), b"Basic=Date Date=C Year=Basic"]
+    return types
+
+
+def rows():
+    """Lines that compare two types."""
+    for first, second in itertools.product(compared_types(), compared_types()):
+        yield line(b"=", first, second)
+    for first, second in itertools.product(TIMES[2::4], TIMES[::3]):
+        yield line(b"=", time_type(first, b"Z"), time_type(second, b"Z"))
+    yield from (b"=;DATE;DATE;", b"=;DATE;DATE;DATE", b"=;;DATE", b"=;DATE;", b"=;;", b"=;;;", b"=; DATE;DATE", b"=;DATE;DATE\r")
+
+
+def other_lines():
+    """Lines that are no question, and semicolons where a text or a type is expected."""
+    yield from (
+        b"", b"?", b"0", b"=", b"0;", b"0;DATE", b"=;DATE", b"=DATE;DATE", b"0DATE;2006-06-13", b"DATE;2006-06-13",
+        b";", b";;", b";DATE;2006-06-13", b"00;DATE;2006-06-13", b"01;DATE;2006-06-13", b"10;DATE;2006-06-13",
+        b" 0;DATE;2006-06-13", b"0 ;DATE;2006-06-13", b"-1;DATE;2006-06-13", b"==;DATE;DATE", b" =;DATE;DATE", b"=0;DATE;DATE",
+        b"A;DATE;2006-06-13", b"\xef\xbb\xbf0;DATE;2006-06-13", b"per;DATE;2006-06-13", b"\r", b"0;;", b"0;;;", b"0;;2006-06-13",
+        b"0;DATE;;", b"0;DATE;;2006-06-13", b"0;DATE;2006-06-13;", b"0;DATE;2006;06;13", b"0;DA;TE;2006-06-13", b"0;DATE;2006-06-13\r",
+        b"0; DATE;2006-06-13", b"0;DATE; 2006-06-13", b"0;DATE;2006-06-13 ", b"0;DATE ;2006-06-13", b'0;DATE;"2006-06-13"',
+        b"0,DATE,2006-06-13", b"0:DATE:2006-06-13", b"0" * 1000, b";" * 1000, b"0" * 1000 + b";DATE;2006-06-13",
+    )
+
+
+def last_line():
+    """The line without a newline at its end."""
+    yield line(b"9", b"DATE-TIME", b"2009-12-31T23:59:60")
+
+
+SECTIONS = (
+    checked_values, good_dates, good_times, good_date_times, date_boundaries, month_boundaries, week_boundaries,
+    time_boundaries, fractions_at_hour_24, differences, year_shapes, years_in_windows, cross_table, changed_texts,
+    changed_types, every_octet, long_texts, long_types, limits_and_places, refused_types, pairs_of_lists, all_orders, rows,
+    other_lines, last_line,
+)
+
+
+def all_lines():
+    """The lines of all sections, each line once."""
+    lines = dict.fromkeys(itertools.chain.from_iterable(section() for section in SECTIONS))
+    if any(b"\n" in each for each in lines):
+        sys.exit("a newline inside a line")
+    return list(lines)
+
+
+def reply_on_text(limits, type_text, text):
+    """The number and, after 0, the canonical text."""
+    number, canonical = judge(type_text, limits, text)
+    return b"0 " + canonical if number == 0 else b"%d" % number
+
+
+def reply_on_rows(first, second):
+    """Whether two types "select the same rows", and their numbers of fraction digits; or a refusal."""
+    a, b = read_type(first), read_type(second)
+    if is_refused(a):
+        return b"%d" % a
+    if is_refused(b):
+        return b"%d" % b
+    answer = b"same" if same_rows(a, b) else b"other"
+    return b"0 %s %d %d" % (answer, fraction_digits(a), fraction_digits(b))
+
+
+def reply(question):
+    """The reply to one line, without its newline."""
+    parts = question.split(b";", 2)
+    if len(parts) < 3:
+        return b"?"
+    limits, type_text, text = parts
+    if limits == b"=":
+        return reply_on_rows(type_text, text)
+    if limits not in MENU:
+        return b"?"
+    return reply_on_text(MENU[limits], type_text, text)
+
+
+def split_lines(octets):
+    """The lines; one without a newline at its end still counts."""
+    lines = octets.split(b"\n")
+    return lines[:-1] if lines[-1] == b"" else lines
+
+
+def main():
+    """Writes the lines, or the replies to lines from standard input."""
+    if sys.argv[1:] == ["lines"]:
+        sys.stdout.buffer.write(b"\n".join(all_lines()))
+    elif sys.argv[1:] == ["replies"]:
+        for question in split_lines(sys.stdin.buffer.read()):
+            sys.stdout.buffer.write(reply(question) + b"\n")
+    else:
+        sys.exit("usage: value_lines.py lines | value_lines.py replies")
+
+
+if __name__ == "__main__":
+    main()
