@@ -8,3 +8,4 @@ pub mod Dates
 pub mod Times
 pub mod Texts
 pub mod Forms
+pub mod Places
