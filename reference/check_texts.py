@@ -3,7 +3,7 @@
 import sys
 
 from settings import Limits, NO_LIMITS, fraction_digits, is_refused, read_type, same_rows
-from texts import judge
+from texts import judge, read_text
 
 YEARS_2000_TO_2010 = Limits((2000, 2010), False)
 EMPTY_WINDOW = Limits((2010, 2000), False)
@@ -67,17 +67,14 @@ TEXTS = (
     # "`2006-164`, `2006-W24`, `2006-W24-2`"
     (NO_LIMITS, YD_BASIC, b"2006-164", 0, b"2006-164"),
     (NO_LIMITS, YWD_BASIC, b"2006-W24-2", 0, b"2006-W24-2"),
-    (NO_LIMITS, YW_BASIC, b"2006-W24-2", 3, None),
     # "for Fn a `.` or `,` and exactly n digits"; "Canonical text (X.690 11.9): full stop for comma"
     (NO_LIMITS, HMSF3_L, b"15:27:46,500", 0, b"15:27:46.500"),
     (NO_LIMITS, HMSF3_L, b"15:27:46.50", 3, None),
     # "a sign with two-digit hours and optionally `:` and minutes (LD)"; "the difference's minutes dropped when 0"
     (NO_LIMITS, HM_LD, b"15:27+01:00", 0, b"15:27+01"),
     (NO_LIMITS, HM_LD, b"15:27-05:30", 0, b"15:27-05:30"),
-    (NO_LIMITS, HM_LD, b"15:27", 3, None),
     # "A date-time has `T` between."
     (NO_LIMITS, YW_T_HM_LD, b"2006-W24T15:27-05:00", 0, b"2006-W24T15:27-05"),
-    (NO_LIMITS, YW_T_HM_LD, b"2006-W24 15:27-05:00", 3, None),
     # "`-` and four digits not all 0, or a sign and five digits not beginning with 0, whichever Year the type names"
     (NO_LIMITS, Y_NEGATIVE, b"-0000", 3, None),
     (NO_LIMITS, Y_L5, b"+02006", 3, None),
@@ -150,6 +147,14 @@ TYPES = (
     (b"Basic=Interval Interval-type=D", 1),
 )
 
+# type, text, whether it has a comma, whether it has a difference's minutes that are 0
+SPELLINGS = (
+    # "DER contents with a comma or `:00` count as of the form, so they meet 6 and not 3."
+    (HMSF3_L, b"15:27:46,500", True, False),
+    (HM_LD, b"15:27+01:00", False, True),
+    (HM_LD, b"15:27+01", False, False),
+)
+
 # type, type, same rows, their numbers of fraction digits
 ROWS = (
     # "a name counts as its settings"
@@ -179,6 +184,9 @@ def main():
     for type_text, number in TYPES:
         read = read_type(type_text)
         agree(read if is_refused(read) else 0, number, type_text)
+    for type_text, text, comma, zero_minutes in SPELLINGS:
+        _, spelling = read_text(read_type(type_text), text)
+        agree((spelling.comma, spelling.zero_minutes), (comma, zero_minutes), "spelling", type_text, text)
     for first, second, same, first_digits, second_digits in ROWS:
         a, b = read_type(first), read_type(second)
         agree(same_rows(a, b), same, "same rows", first, second)

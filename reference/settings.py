@@ -149,7 +149,7 @@ def years_are_alike(a, b):
 
 
 def same_rows(a, b):
-    """"Two types select the same rows when they have the same Basic; the same Date setting, ..."; "restrictions don't count"."""
+    """"Two types select the same rows when they have the same Basic; the same Date setting", and so on."""
     return (
         a.basic == b.basic
         and a.date == b.date

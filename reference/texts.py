@@ -33,7 +33,8 @@ DATE_FIELDS = {
 # "two-digit fields with `:` between"
 TIME_FIELDS = {"H": 1, "HM": 2, "HMS": 3, "HF": 1, "HMF": 2, "HMSF": 3}
 
-# "Basic (1582 to 9999), Proleptic (0000 to 1581), Negative (-9999 to -0001), L5 (five digits after a sign, first digit not 0)"
+# "Basic (1582 to 9999), Proleptic (0000 to 1581), Negative (-9999 to -0001), L5 (five digits after a sign,
+# first digit not 0)"
 YEAR_RANGES = (
     ("Basic", 1582, 9999),
     ("Proleptic", 0, 1581),
@@ -139,7 +140,7 @@ def read_difference(octets):
 
 
 def read_time(octets, t):
-    """"a time is two-digit fields with `:` between, then for Fn" the fraction, "then nothing (L), `Z`, or" the difference."""
+    """"two-digit fields with `:` between, then for Fn" the fraction, "then nothing (L), `Z`, or" the difference."""
     fields = [octets.take_digits(2)]
     for _ in range(TIME_FIELDS[t.time] - 1):
         octets.take(b":")

@@ -55,6 +55,12 @@ YEAR_TEXTS = (
     b"6", b"-", b"+", b"--2006", b"+-2006", b"+100000", b"-100000", b"+012006", b" 2006", b"2006 ",
 )
 
+# one year of every shape, and the ends of each Year setting
+YEARS_FOR_PAIRS = (
+    b"0000", b"1581", b"1582", b"9999", b"-0000", b"-0001", b"-9999", b"+10000", b"-10000", b"+99999", b"-99999",
+    b"+02006", b"+2006", b"20060", b"206",
+)
+
 # years on both sides of each window's ends, and of each Year setting's
 YEARS_AT_WINDOWS = (
     b"1999", b"2000", b"2005", b"2010", b"2011", b"1581", b"1582", b"9999", b"+10000", b"-10000", b"-9999", b"-0001",
@@ -224,7 +230,7 @@ def time_boundaries():
 def fractions_at_hour_24():
     """"at 24 all smaller fields and the fraction are 0", for every n and every place of the digit that is not 0."""
     for time in TIMES:
-        whole, _, n = time.partition(b"F")
+        _, _, n = time.partition(b"F")
         for place in range(int(n or b"0")):
             fraction = b"0" * place + b"1" + b"0" * 9
             yield line(b"0", time_type(time, b"L"), time_text(time, (b"24", b"00", b"00"), fraction))
@@ -254,7 +260,7 @@ def year_shapes():
     """Years of every shape under every Year setting and every pair of lists, for every form."""
     for years, year in itertools.product(YEAR_CHOICES, YEAR_TEXTS):
         yield line(b"0", date_type(b"Y", *years), year)
-    for years, year in itertools.product(itertools.product(YEARS, YEARS), YEAR_TEXTS[::3]):
+    for years, year in itertools.product(itertools.product(YEARS, YEARS), YEARS_FOR_PAIRS):
         yield line(b"0", date_type(b"Y", *years), year)
     for date, years, year in itertools.product(DATES[1:], (YEAR_CHOICES[0], YEAR_CHOICES[7]), YEAR_TEXTS):
         yield line(b"0", date_type(date, *years), year + DATE_TAILS[date])
@@ -477,7 +483,7 @@ def unknown_settings():
         yield b"Basic=Time Time=%s Local-or-UTC=L" % time
     for zone in (b"D", b"ZD", b"LZ", b"LDL", b"UTC", b"Local", b"l", b"z", b"ld", b"Ld", b"L,Z", b"+01", b""):
         yield b"Basic=Time Time=HMS Local-or-UTC=%s" % zone
-    for name in (b"Local", b"UTC", b"Local-or-utc", b"Local-Or-UTC", b"LocalOrUTC", b"Local or UTC", b"Zone", b"Local-or-UTC "):
+    for name in (b"Local", b"UTC", b"Local-or-utc", b"Local-Or-UTC", b"LocalOrUTC", b"Local or UTC", b"Local-or-UTC "):
         yield b"Basic=Time Time=HMS %s=L" % name
 
 
@@ -486,7 +492,8 @@ def other_types_of_x_680():
     yield from (
         b"Basic=Date Date=C Year=Basic", b"Basic=Date Date=C Year=Basic|Basic=Date Date=C Year=Proleptic",
         b"Basic=Date Date=C Year=Negative|Basic=Date Date=C Year=L5", b"Date=C Year=Basic|Date=C Year=Proleptic",
-        b"Basic=Date Date=Y Year=Basic|Basic=Date Date=C Year=Basic", b"Basic=Date-Time Date=C Year=Basic Time=H Local-or-UTC=L",
+        b"Basic=Date Date=Y Year=Basic|Basic=Date Date=C Year=Basic",
+        b"Basic=Date-Time Date=C Year=Basic Time=H Local-or-UTC=L",
         b"Basic=Interval Interval-type=D", b"Basic=Interval Interval-type=SE SE-point=Date",
         b"Basic=Interval Interval-type=SE SE-point=Time", b"Basic=Interval Interval-type=SE SE-point=Date-Time",
         b"Basic=Interval Interval-type=SD SE-point=Date Date=YMD Year=Basic",
@@ -512,9 +519,10 @@ def misplaced_names():
         yield from (name + b"|", b"|" + name, name + b"|" + name, name + b" | " + name, name + b"|" + list_text)
         yield from (list_text + b"|" + name, name + b" " + pairs[name], pairs[name] + b" " + name, name + b" " + list_text)
         yield from (name.lower(), name.title(), name.swapcase(), name + b" ", b" " + name, name + b" " + name, name + name)
-        yield from (name + b"\x00", name + b"\r", b"\t" + name, name[:-1], name + b"S", b"(" + name + b")", b"\xef\xbb\xbf" + name)
+        yield from (name + b"\x00", name + b"\r", b"\t" + name, name[:-1], name + b"S", b"(" + name + b")")
+        yield from (b"\xef\xbb\xbf" + name, b'"' + name + b'"')
         yield from (name + b"=", b"Basic=" + name, name.replace(b"-", b"_"), name.replace(b"-", b" "), name + b"||" + name)
-    yield from (b"DATE|TIME-OF-DAY", b"TIME-OF-DAY|DATE-TIME", b"DATE-TIME|DATE", b"DATE|TIME-OF-DAY|DATE-TIME", b"TIME-OF DAY")
+    yield from (b"DATE|TIME-OF-DAY", b"TIME-OF-DAY|DATE-TIME", b"DATE-TIME|DATE", b"|".join(NAMES), b"TIME-OF DAY")
 
 
 def misplaced_spaces():
@@ -523,8 +531,10 @@ def misplaced_spaces():
     yield from (b" " + y, y + b" ", b" " + y + b" ", y.replace(b" ", b"  "), y.replace(b" ", b"  ", 1), y.replace(b" ", b""))
     yield from (y + b" |" + p, y + b"| " + p, y + b" | " + p, b" " + y + b"|" + p, y + b"|" + p + b" ", y + b"|  " + p)
     yield from (y.replace(b"=", b" ="), y.replace(b"=", b"= "), y.replace(b"=", b" = "), y.replace(b"=", b":"))
-    yield from (y.replace(b" ", other) for other in (b"\t", b"\r", b"\x0b", b"\x0c", b"\xa0", b"\xc2\xa0", b",", b", ", b"+", b"\x00"))
-    yield from (y + b"\r", y + b"\t", y + b"\x00", b"\x00" + y, b" ", b"  ", b" | ", b"| ", b" |", b"\t", y.lower(), y.upper())
+    for other in (b"\t", b"\r", b"\x0b", b"\x0c", b"\xa0", b"\xc2\xa0", b",", b", ", b"+", b"\x00"):
+        yield y.replace(b" ", other)
+    yield from (y + b"\r", y + b"\t", y + b"\x00", b"\x00" + y, b" ", b"  ", b" | ", b"| ", b" |", b"\t")
+    yield from (y.lower(), y.upper())
 
 
 def wrong_bars():
@@ -533,8 +543,7 @@ def wrong_bars():
     yield from (b"|", b"||", b"|||", y + b"|", b"|" + y, y + b"||", y + b"||" + p, b"|" + y + b"|" + p, y + b"|" + p + b"|")
     yield from (y + b"|" + p + b"|" + n, y + b"|" + p + b"|" + l5, y + b"|" + y + b"|" + y, y + b"|" + p + b"|" + y)
     yield from (y + b"|" + n + b"|" + p, n + b"|" + l5 + b"|" + n, b"|".join((y, p, n, l5)), b"|".join((y, n, p, l5, y)))
-    for other, same in ((b"||", b"|"), (b"&", b"|"), (b"/", b"|"), (b"^", b"|"), (b"\xa6", b"|"), (b"UNION", b"|"), (b"!", b"|")):
-        yield (y + b"|" + p).replace(same, other)
+    yield from (y + other + p for other in (b"&", b"/", b"^", b"!", b"\xa6", b"UNION", b" UNION ", b" ", b""))
     for pairs in good_lists():
         first = b" ".join(pairs)
         for order in itertools.islice(itertools.permutations(pairs), 0, None, 1 if len(pairs) == 3 else 11):
@@ -546,7 +555,7 @@ def ones_before_twos():
     y, hms = date_type(b"Y", b"Basic"), time_type(b"HMS", b"L")
     refused = (
         b"", b" ", b"Basic=Date Date=YM", b"Date=YM Year=L5", b"Basic=Date Date=YM Year=L6", b"Basic=Date Date=C Year=Basic",
-        b"Basic=Time Time=HMS", b"Basic=Time Time=HF0 Local-or-UTC=L", b"Basic=Interval Interval-type=D", b"DATE", b"TIME-OF-DAY",
+        b"Basic=Time Time=HMS", b"Basic=Time Time=HF0 Local-or-UTC=L", b"Basic=Interval Interval-type=D", *NAMES,
         b"Basic=Date Date=YM Year=L5 Year=L5", b"Basic=Date Date=YM Year=L5 ", b" Basic=Date Date=YM Year=L5", b"Basic",
         b"Basic=Time Time=HMS Local-or-UTC=L Date=Y Year=L5", b"basic=Date Date=YM Year=L5", b"Basic=Date  Date=YM Year=L5",
         b"Basic=Date Date=YM Year=L5 Midnight=Start", b"Basic=Date-Time Date=YM Year=L5 Time=H",
@@ -612,7 +621,8 @@ def rows():
         yield line(b"=", first, second)
     for first, second in itertools.product(TIMES[2::4], TIMES[::3]):
         yield line(b"=", time_type(first, b"Z"), time_type(second, b"Z"))
-    yield from (b"=;DATE;DATE;", b"=;DATE;DATE;DATE", b"=;;DATE", b"=;DATE;", b"=;;", b"=;;;", b"=; DATE;DATE", b"=;DATE;DATE\r")
+    yield from (b"=;DATE;DATE;", b"=;DATE;DATE;DATE", b"=;;DATE", b"=;DATE;", b"=;;", b"=;;;", b"=; DATE;DATE")
+    yield b"=;DATE;DATE\r"
 
 
 def other_lines():
@@ -620,9 +630,10 @@ def other_lines():
     yield from (
         b"", b"?", b"0", b"=", b"0;", b"0;DATE", b"=;DATE", b"=DATE;DATE", b"0DATE;2006-06-13", b"DATE;2006-06-13",
         b";", b";;", b";DATE;2006-06-13", b"00;DATE;2006-06-13", b"01;DATE;2006-06-13", b"10;DATE;2006-06-13",
-        b" 0;DATE;2006-06-13", b"0 ;DATE;2006-06-13", b"-1;DATE;2006-06-13", b"==;DATE;DATE", b" =;DATE;DATE", b"=0;DATE;DATE",
-        b"A;DATE;2006-06-13", b"\xef\xbb\xbf0;DATE;2006-06-13", b"per;DATE;2006-06-13", b"\r", b"0;;", b"0;;;", b"0;;2006-06-13",
-        b"0;DATE;;", b"0;DATE;;2006-06-13", b"0;DATE;2006-06-13;", b"0;DATE;2006;06;13", b"0;DA;TE;2006-06-13", b"0;DATE;2006-06-13\r",
+        b" 0;DATE;2006-06-13", b"0 ;DATE;2006-06-13", b"-1;DATE;2006-06-13", b"==;DATE;DATE", b" =;DATE;DATE",
+        b"=0;DATE;DATE", b"\xef\xbb\xbf0;DATE;2006-06-13", b"per;DATE;2006-06-13", b"\r", b"0;;", b"0;;;",
+        b"0;;2006-06-13", b"0;DATE;;", b"0;DATE;;2006-06-13", b"0;DATE;2006-06-13;", b"0;DATE;2006;06;13",
+        b"0;DA;TE;2006-06-13", b"0;DATE;2006-06-13\r",
         b"0; DATE;2006-06-13", b"0;DATE; 2006-06-13", b"0;DATE;2006-06-13 ", b"0;DATE ;2006-06-13", b'0;DATE;"2006-06-13"',
         b"0,DATE,2006-06-13", b"0:DATE:2006-06-13", b"0" * 1000, b";" * 1000, b"0" * 1000 + b";DATE;2006-06-13",
     )
