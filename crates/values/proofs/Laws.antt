@@ -8,3 +8,5 @@ pub mod Dates
 pub mod Times
 pub mod Texts
 pub mod Forms
+pub mod Stores
+pub mod Canonical

@@ -1,5 +1,7 @@
 // Types, values and texts: everything between a type's text and a value, and the lent room.
+pub mod canonical;
 pub mod forms;
+mod printing;
 pub mod refusals;
 mod steps;
 pub mod texts;
