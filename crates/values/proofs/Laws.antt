@@ -9,3 +9,5 @@ pub mod Times
 pub mod Texts
 pub mod Forms
 pub mod Places
+pub mod Stores
+pub mod Canonical

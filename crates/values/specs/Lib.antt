@@ -9,3 +9,4 @@ pub mod Dates
 pub mod Times
 pub mod Texts
 pub mod Steps
+pub mod Canonical

@@ -1,7 +1,9 @@
 // Types, values and texts: everything between a type's text and a value, and the lent room.
 mod dates;
 mod fields;
+pub mod canonical;
 pub mod forms;
+mod printing;
 pub mod refusals;
 mod steps;
 pub mod texts;
