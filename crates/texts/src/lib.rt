@@ -1,24 +1,19 @@
-// Values and their texts: reading a text of any octets at a form, and writing the canonical text.
-pub mod canonical;
-mod dates;
-mod fields;
+// Values, their forms, and their texts as definitions: what a text of any octets gives at a form, and the
+// canonical text of a value. The crates `reading` and `printing` do both.
 pub mod forms;
-mod printing;
-mod steps;
+pub mod parts;
 pub mod texts;
-mod times;
 pub mod values;
-mod years;
 
-pub use canonical::TEXT_CAPACITY;
-pub use canonical::text_into;
 pub use forms::ClockForm;
 pub use forms::DateForm;
 pub use forms::Form;
 pub use forms::TimeForm;
 pub use forms::ZoneForm;
+pub use parts::Fraction;
+pub use parts::TimeText;
+pub use parts::ZoneText;
 pub use texts::TextRead;
-pub use texts::read_text;
 pub use values::Clock;
 pub use values::Difference;
 pub use values::Spelling;
