@@ -1,0 +1,16 @@
+use mathlib.Core.Bool.{or-false}
+use borrow.Author.Tests.{eq-eqb, ne-eqb}
+use Rattle.settings.specs.TypeTexts.{member}
+use Rattle.settings.proofs.type_text.named.Statement.{statement}
+use Rattle.settings.proofs.type_text.named.Tie as tie
+
+returns : tie.Need-returns
+unfolding member
+returns c = rw (eq-eqb _ _ (c .if1 .taken))
+
+returns-2 : tie.Need-returns-2
+unfolding member
+returns-2 c = rw (ne-eqb _ _ (c .if1 .left), or-false)
+
+pub named-spec : {M : Type 1} → statement M
+named-spec = tie.close (tie.spec returns returns-2)

@@ -1,0 +1,90 @@
+-- How a type is written as settings: a list for each Year that it names. Restrictions have no notation.
+use Prim.Native.Nat.{ℕ, _+_}
+use mathlib.Core.Bool.{Bool, true, false, cond}
+use mathlib.Core.List.{List, [], _∷_, _++_, map, List·Permᴰ}
+use lib.Dec.{eqb}
+use Rattle.settings.specs.Octets.{bytes}
+use Rattle.texts.specs.declared.forms.DateForm.{DateForm}
+use Rattle.texts.specs.declared.forms.ClockForm.{ClockForm}
+use Rattle.texts.specs.declared.forms.ZoneForm.{ZoneForm}
+use Rattle.texts.specs.declared.forms.TimeForm.{TimeForm}
+use Rattle.settings.specs.declared.types.Years.{Years}
+use Rattle.settings.specs.declared.types.Parts.{Parts}
+
+-- "`Date`: Y, YM, YMD, YD, YW, YWD."
+abbrev pub dateWord : DateForm → List ℕ
+dateWord DateForm.Y = bytes "Date=Y"
+dateWord DateForm.YM = bytes "Date=YM"
+dateWord DateForm.YMD = bytes "Date=YMD"
+dateWord DateForm.YD = bytes "Date=YD"
+dateWord DateForm.YW = bytes "Date=YW"
+dateWord DateForm.YWD = bytes "Date=YWD"
+
+-- "`Year`: Basic, Proleptic, Negative, L5."
+pub data YearSetting : Type 0 where
+  basic : YearSetting
+  proleptic : YearSetting
+  negative : YearSetting
+  five : YearSetting
+
+abbrev pub yearWord : YearSetting → List ℕ
+yearWord basic = bytes "Year=Basic"
+yearWord proleptic = bytes "Year=Proleptic"
+yearWord negative = bytes "Year=Negative"
+yearWord five = bytes "Year=L5"
+
+-- "`Time`: H, HM, HMS, HFn, HMFn, HMSFn": F and the digit n where there is a fraction.
+abbrev pub clockWord : ClockForm → List ℕ
+clockWord ClockForm.H = bytes "Time=H"
+clockWord ClockForm.HM = bytes "Time=HM"
+clockWord ClockForm.HMS = bytes "Time=HMS"
+
+abbrev pub timeWord : ClockForm → ℕ → List ℕ
+timeWord c n = cond (eqb n 0) (clockWord c) (clockWord c ++ bytes "F" ++ (48 + n) ∷ [])
+
+-- "`Local-or-UTC`: L, Z, LD."
+abbrev pub zoneWord : ZoneForm → List ℕ
+zoneWord ZoneForm.L = bytes "Local-or-UTC=L"
+zoneWord ZoneForm.Z = bytes "Local-or-UTC=Z"
+zoneWord ZoneForm.LD = bytes "Local-or-UTC=LD"
+
+-- The pairs of a list.
+abbrev pub dateWords : DateForm → YearSetting → List (List ℕ)
+dateWords f y = bytes "Basic=Date" ∷ dateWord f ∷ yearWord y ∷ []
+
+abbrev pub timeWords : TimeForm → List (List ℕ)
+timeWords t = bytes "Basic=Time" ∷ timeWord (t .clock) (t .digits) ∷ zoneWord (t .zone) ∷ []
+
+abbrev pub dateTimeWords : DateForm → TimeForm → YearSetting → List (List ℕ)
+dateTimeWords f t y =
+    bytes "Basic=Date-Time" ∷ dateWord f ∷ yearWord y ∷ timeWord (t .clock) (t .digits) ∷ zoneWord (t .zone) ∷ []
+
+-- The Years that a type names.
+abbrev pub andNamed : Bool → YearSetting → List YearSetting → List YearSetting
+andNamed true y l = y ∷ l
+andNamed false y l = l
+
+abbrev pub namedYears : Years → List YearSetting
+namedYears (Years.Plain y) = andNamed (y .basic) basic (andNamed (y .proleptic) proleptic [])
+namedYears (Years.Signed y) = andNamed (y .negative) negative (andNamed (y .five) five [])
+
+-- The pairs of each list of a type.
+abbrev pub listsFor : Parts → List (List (List ℕ))
+listsFor (Parts.Date d) = map (dateWords (d .form)) (namedYears (d .years))
+listsFor (Parts.Time t) = timeWords (t .form) ∷ []
+listsFor (Parts.DateTime d t) = map (dateTimeWords (d .form) (t .form)) (namedYears (d .years))
+
+-- Pieces with the octet c between them.
+unfoldable pub joinWith : ℕ → List (List ℕ) → List ℕ
+joinWith c [] = []
+joinWith c (w ∷ []) = w
+joinWith c (w ∷ v ∷ ws) = w ++ c ∷ joinWith c (v ∷ ws)
+
+-- "pairs with one space between", and lists "with `|` between them".
+unfoldable pub typeText : List (List (List ℕ)) → List ℕ
+typeText wss = joinWith 124 (map (joinWith 32) wss)
+
+-- "in any order": the same lists, the pairs of each in an order of its own.
+pub data Arranged : List (List (List ℕ)) → List (List (List ℕ)) → Type 0 where
+  end : Arranged [] []
+  more : {ws vs : List (List ℕ)} {wss vss : List (List (List ℕ))} → List·Permᴰ ws vs → Arranged wss vss → Arranged (ws ∷ wss) (vs ∷ vss)

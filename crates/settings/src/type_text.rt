@@ -1,0 +1,180 @@
+ghost use mathlib.Core.Path.{_≡_};
+ghost use mathlib.Core.List.{[], _∷_};
+ghost use Rattle.settings.specs.Lists.{yearIn};
+ghost use Rattle.settings.specs.TypeTexts.{joined, listsOf, listType, member, sameButYear, timeAt, typeOf, usable, yearFamily, yearsOf};
+use crate::lists::Settings;
+use crate::lists::find;
+use crate::lists::list_has_date;
+use crate::lists::list_has_time;
+use crate::lists::read_list;
+use crate::settings::clock_at;
+use crate::settings::date_at;
+use crate::settings::zone_at;
+use crate::types::Limits;
+use crate::types::PlainYears;
+use crate::types::SignedYears;
+use crate::types::Type;
+use crate::types::TypeRead;
+use crate::types::Years;
+use crate::types::has_place;
+use crate::words::same;
+use texts::TimeForm;
+
+// Whether one of two Years has this number.
+fn named(a: u32, b: u32, number: u32) -> bool
+    ensures { λ r. ⌜ r ≡ member number (a ∷ b ∷ []) ⌝ }
+{
+    if a == number {
+        return true;
+    }
+    b == number
+}
+
+// The Years of two lists of one row, by their numbers.
+fn years_of(a: u32, b: u32) -> Years
+    ensures { λ r. ⌜ r ≡ yearsOf (a ∷ b ∷ []) ⌝ }
+{
+    let basic = named(a, b, 1);
+    let proleptic = named(a, b, 2);
+    if basic {
+        return Years::Plain(PlainYears { basic, proleptic });
+    }
+    if proleptic {
+        return Years::Plain(PlainYears { basic, proleptic });
+    }
+    let negative = named(a, b, 3);
+    let five = named(a, b, 4);
+    Years::Signed(SignedYears { negative, five })
+}
+
+// The form of a time with these settings, by their numbers.
+fn time_at(time: u32, zone: u32) -> TimeForm
+    ensures { λ r. ⌜ r ≡ timeAt time zone ⌝ }
+{
+    let clock = clock_at(time % 10);
+    let zone = zone_at(zone);
+    TimeForm {
+        clock,
+        digits: time / 10,
+        zone,
+    }
+}
+
+// The type of a list, with the Year of a second list of its row, or 0.
+fn list_type(list: Settings, other: u32) -> Type
+    ensures { λ r. ⌜ r ≡ listType list (yearIn list ∷ other ∷ []) ⌝ }
+{
+    let basic = list.numbers[0];
+    let date = date_at(list.numbers[1]);
+    let years = years_of(list.numbers[2], other);
+    let time = time_at(list.numbers[3], list.numbers[4]);
+    if basic == 1 {
+        return Type::date(date, years);
+    }
+    if basic == 2 {
+        return Type::time(time);
+    }
+    Type::date_time(date, years, time)
+}
+
+// Whether a list can be read and the limits have their place in it.
+fn is_usable(limits: Limits, list: Settings) -> bool
+    ensures { λ r. ⌜ r ≡ usable limits list ⌝ }
+{
+    if !list.readable {
+        return false;
+    }
+    has_place(limits, list_has_date(list), list_has_time(list))
+}
+
+// 1 for the Years without a sign, 2 for those with one.
+fn year_family(year: u32) -> u32
+    ensures { λ r. ⌜ r ≡ yearFamily year ⌝ }
+{
+    if year <= 2 {
+        return 1;
+    }
+    2
+}
+
+// Whether two lists have the same settings, Year aside.
+fn same_but_year(a: Settings, b: Settings) -> bool
+    ensures { λ r. ⌜ r ≡ sameButYear a b ⌝ }
+{
+    if a.numbers[0] != b.numbers[0] {
+        return false;
+    }
+    if a.numbers[1] != b.numbers[1] {
+        return false;
+    }
+    if a.numbers[3] != b.numbers[3] {
+        return false;
+    }
+    a.numbers[4] == b.numbers[4]
+}
+
+// The type of one list.
+fn one_list(limits: Limits, list: Settings) -> TypeRead
+    ensures { λ r. ⌜ r ≡ joined limits (list ∷ []) ⌝ }
+{
+    if !is_usable(limits, list) {
+        return TypeRead::Unreadable;
+    }
+    list_type(list, 0).limited(limits)
+}
+
+// The type of two lists.
+fn two_lists(limits: Limits, a: Settings, b: Settings) -> TypeRead
+    ensures { λ r. ⌜ r ≡ joined limits (a ∷ b ∷ []) ⌝ }
+{
+    if !is_usable(limits, a) {
+        return TypeRead::Unreadable;
+    }
+    if !is_usable(limits, b) {
+        return TypeRead::Unreadable;
+    }
+    if !same_but_year(a, b) {
+        return TypeRead::NoRow;
+    }
+    let first = a.numbers[2];
+    let second = b.numbers[2];
+    if first == second {
+        return TypeRead::Unreadable;
+    }
+    if year_family(first) != year_family(second) {
+        return TypeRead::NoRow;
+    }
+    list_type(a, second).limited(limits)
+}
+
+// The type of a text that is no name.
+fn read_lists(text: &[u8], limits: Limits) -> TypeRead
+    ensures { λ r. ⌜ r ≡ joined limits (listsOf (now (text .entry))) ⌝ }
+{
+    let end = text.len();
+    let bar = find(text, 0, b'|');
+    if end <= bar {
+        return one_list(limits, read_list(text));
+    }
+    let next = bar + 1;
+    if find(text, next, b'|') < end {
+        return TypeRead::Unreadable;
+    }
+    two_lists(limits, read_list(&text[..bar]), read_list(&text[next..]))
+}
+
+// The type that a text names or lists, under limits given beside it.
+pub fn read_type(text: &[u8], limits: Limits) -> TypeRead
+    ensures { λ r. ⌜ r ≡ typeOf limits (now (text .entry)) ⌝ }
+{
+    if same(text, b"DATE") {
+        return Type::DATE.limited(limits);
+    }
+    if same(text, b"TIME-OF-DAY") {
+        return Type::TIME_OF_DAY.limited(limits);
+    }
+    if same(text, b"DATE-TIME") {
+        return Type::DATE_TIME.limited(limits);
+    }
+    read_lists(text, limits)
+}

@@ -1,0 +1,4 @@
+-- The laws of what exists and of what a type holds.
+pub mod Existence
+pub mod CheckedExistence
+pub mod Holding

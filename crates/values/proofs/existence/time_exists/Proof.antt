@@ -1,0 +1,65 @@
+use mathlib.Core.Path.{_≡_}
+use mathlib.Core.Bool.{_&&_}
+use borrow.Author.Tests.{not-true, not-false}
+use borrow.Author.Needs.{needs}
+use Rattle.texts.specs.declared.values.Time.{Time}
+use Rattle.values.specs.Existence.{existsFraction, existsZone, existsTime}
+use Rattle.values.proofs.existence.time_exists.Statement.{statement}
+use Rattle.values.proofs.existence.time_exists.Tie as tie
+
+hours-requires : tie.Need-hours-requires
+hours-requires c κs = search needs
+
+minutes-requires : tie.Need-minutes-requires
+minutes-requires c κs = search needs
+
+seconds-requires : tie.Need-seconds-requires
+seconds-requires c κs = search needs
+
+clock-exists-requires : tie.Need-clock-exists-requires
+clock-exists-requires c κs = search needs
+
+-- what is asked, once the clock's part of it is known
+module _ (k : tie.After-clock-exists) where
+  abbrev time : Time
+  time = k .before .before .before .before .args .time
+
+  asked : existsTime time ≡ (k .clock-exists .result && existsFraction (time .digits) (time .fraction) && existsZone (time .zone))
+  unfolding existsTime
+  asked = simp (← k .before .before .before .hours .ensures, ← k .before .before .minutes .ensures, ← k .before .seconds .ensures, ← k .clock-exists .ensures)
+
+returns : tie.Need-returns
+returns c = simp (asked (c .before), not-true (c .before .clock-exists .result) (c .if1 .taken))
+
+fraction-exists-requires : tie.Need-fraction-exists-requires
+fraction-exists-requires c κs = search needs
+
+returns-2 : tie.Need-returns-2
+returns-2 c =
+    let f = c .before in
+    let k = f .before .before in
+    simp (asked k, not-false (k .clock-exists .result) (f .before .if1 .left), ← f .fraction-exists .ensures, not-true (f .fraction-exists .result) (c .if2 .taken))
+
+zone-exists-requires : tie.Need-zone-exists-requires
+zone-exists-requires c κs = search needs
+
+returns-3 : tie.Need-returns-3
+returns-3 c =
+    let f = c .before .before in
+    let k = f .before .before in
+    simp (asked k, not-false (k .clock-exists .result) (f .before .if1 .left), ← f .fraction-exists .ensures, not-false (f .fraction-exists .result) (c .before .if2 .left))
+    (c .zone-exists .ensures)
+
+pub time-exists-spec : {M : Type 1} → statement M
+time-exists-spec =
+    tie.close
+    (tie.spec
+    hours-requires
+    minutes-requires
+    seconds-requires
+    clock-exists-requires
+    returns
+    fraction-exists-requires
+    returns-2
+    zone-exists-requires
+    returns-3)

@@ -1,0 +1,4 @@
+-- What a reader must believe of which values exist and which a type holds.
+pub mod Existence
+pub mod Forms
+pub mod Holding

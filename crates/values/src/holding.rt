@@ -1,0 +1,228 @@
+ghost use mathlib.Core.Path.{_≡_};
+ghost use mathlib.Core.Bool.{_&&_};
+ghost use Rattle.calendar.specs.Years.{astronomicalOf};
+ghost use Rattle.texts.specs.Forms.{dateForm, clockForm, zoneForm, timeForm};
+ghost use Rattle.settings.specs.Settings.{dateNumber, clockNumber, zoneNumber};
+ghost use Rattle.settings.specs.Types.{formOfParts, formOf};
+ghost use Rattle.values.specs.Forms.{sameDateForm, sameTimeForm};
+ghost use Rattle.texts.specs.Forms.{yearOf};
+ghost use Rattle.values.specs.Holding.{between, inFive, inPlain, inSigned, inYears, inWindow, admitsDate, admitsTime, inType, holdsOf};
+use crate::existence::hours;
+use crate::existence::value_exists;
+use calendar::Date;
+use calendar::Year;
+use settings::settings::clock_number;
+use settings::settings::date_number;
+use settings::settings::zone_number;
+use settings::types::DateType;
+use settings::types::Parts;
+use settings::types::PlainYears;
+use settings::types::SignedYears;
+use settings::types::TimeType;
+use settings::types::Type;
+use settings::types::Window;
+use settings::types::Years;
+use texts::Clock;
+use texts::ClockForm;
+use texts::DateForm;
+use texts::Time;
+use texts::TimeForm;
+use texts::Value;
+use texts::Zone;
+use texts::ZoneForm;
+
+// The form of a date.
+fn date_form(date: Date) -> DateForm
+    ensures { λ r. ⌜ r ≡ dateForm date ⌝ }
+{
+    match date {
+        Date::Y(_) => DateForm::Y,
+        Date::YM(_, _) => DateForm::YM,
+        Date::YMD(_, _, _) => DateForm::YMD,
+        Date::YD(_, _) => DateForm::YD,
+        Date::YW(_, _) => DateForm::YW,
+        Date::YWD(_, _, _) => DateForm::YWD,
+    }
+}
+
+fn clock_form(clock: Clock) -> ClockForm
+    ensures { λ r. ⌜ r ≡ clockForm clock ⌝ }
+{
+    match clock {
+        Clock::H(_) => ClockForm::H,
+        Clock::HM(_, _) => ClockForm::HM,
+        Clock::HMS(_, _, _) => ClockForm::HMS,
+    }
+}
+
+fn zone_form(zone: Zone) -> ZoneForm
+    ensures { λ r. ⌜ r ≡ zoneForm zone ⌝ }
+{
+    match zone {
+        Zone::L => ZoneForm::L,
+        Zone::Z => ZoneForm::Z,
+        Zone::LD(_) => ZoneForm::LD,
+    }
+}
+
+// The form of a time.
+fn time_form(time: Time) -> TimeForm
+    ensures { λ r. ⌜ r ≡ timeForm time ⌝ }
+{
+    let clock = time.clock;
+    let zone = time.zone;
+    TimeForm {
+        clock: clock_form(clock),
+        digits: time.digits,
+        zone: zone_form(zone),
+    }
+}
+
+// Whether two forms are one.
+fn same_date_form(a: DateForm, b: DateForm) -> bool
+    ensures { λ r. ⌜ r ≡ sameDateForm a b ⌝ }
+{
+    date_number(a) == date_number(b)
+}
+
+fn same_time_form(a: TimeForm, b: TimeForm) -> bool
+    ensures { λ r. ⌜ r ≡ sameTimeForm a b ⌝ }
+{
+    let here = a.clock;
+    let there = b.clock;
+    if clock_number(here) != clock_number(there) {
+        return false;
+    }
+    if a.digits != b.digits {
+        return false;
+    }
+    let zone = a.zone;
+    let other = b.zone;
+    zone_number(zone) == zone_number(other)
+}
+
+// The year of a date.
+fn year_of(date: Date) -> Year
+    ensures { λ r. ⌜ r ≡ yearOf date ⌝ }
+{
+    match date {
+        Date::Y(year) => year,
+        Date::YM(year, _) => year,
+        Date::YMD(year, _, _) => year,
+        Date::YD(year, _) => year,
+        Date::YW(year, _) => year,
+        Date::YWD(year, _, _) => year,
+    }
+}
+
+// Whether a year lies from the lowest to the highest.
+fn within(lowest: Year, highest: Year, year: Year) -> bool
+    ensures { λ r. ⌜ r ≡ between (astronomicalOf lowest) (astronomicalOf highest) (astronomicalOf year) ⌝ }
+{
+    lowest.at_most(year) && year.at_most(highest)
+}
+
+// The same, where a type names the Year setting of that range.
+fn named(name: bool, lowest: i32, highest: i32, year: Year) -> bool
+    ensures { λ r. ⌜ r ≡ name && between lowest highest (astronomicalOf year) ⌝ }
+{
+    name && within(Year::of(lowest), Year::of(highest), year)
+}
+
+// Whether a year is of a Year setting that the type names.
+fn in_plain(names: PlainYears, year: Year) -> bool
+    ensures { λ r. ⌜ r ≡ inPlain names (astronomicalOf year) ⌝ }
+{
+    named(names.basic, 1582, 9999, year) || named(names.proleptic, 0, 1581, year)
+}
+
+fn five_digits(name: bool, year: Year) -> bool
+    ensures { λ r. ⌜ r ≡ name && inFive (astronomicalOf year) ⌝ }
+{
+    named(name, -99999, -10000, year) || named(name, 10000, 99999, year)
+}
+
+fn in_signed(names: SignedYears, year: Year) -> bool
+    ensures { λ r. ⌜ r ≡ inSigned names (astronomicalOf year) ⌝ }
+{
+    named(names.negative, -9999, -1, year) || five_digits(names.five, year)
+}
+
+fn in_years(years: Years, year: Year) -> bool
+    ensures { λ r. ⌜ r ≡ inYears years (astronomicalOf year) ⌝ }
+{
+    match years {
+        Years::Plain(names) => in_plain(names, year),
+        Years::Signed(names) => in_signed(names, year),
+    }
+}
+
+// Whether a year lies in the type's window.
+fn in_window(window: Window, year: Year) -> bool
+    ensures { λ r. ⌜ r ≡ inWindow window (astronomicalOf year) ⌝ }
+{
+    match window {
+        Window::Every => true,
+        Window::Within(lowest, highest) => within(lowest, highest, year),
+    }
+}
+
+// Whether a date is of the type's form, of a Year setting that it names, and in its window.
+fn date_in(t: DateType, date: Date) -> bool
+    ensures { λ r. ⌜ r ≡ sameDateForm (dateForm date) (t .form) && admitsDate t date ⌝ }
+{
+    let form = t.form;
+    let years = t.years;
+    let window = t.window;
+    if !same_date_form(date_form(date), form) {
+        return false;
+    }
+    let year = year_of(date);
+    in_years(years, year) && in_window(window, year)
+}
+
+// Whether a time is of the type's form, and not of an hour 24 that the type leaves out.
+fn time_in(t: TimeType, time: Time) -> bool
+    ensures { λ r. ⌜ r ≡ sameTimeForm (timeForm time) (t .form) && admitsTime t time ⌝ }
+{
+    let form = t.form;
+    let clock = time.clock;
+    if !same_time_form(time_form(time), form) {
+        return false;
+    }
+    if t.hour24 {
+        return true;
+    }
+    hours(clock) != 24
+}
+
+// Whether a value is of the type's form, Year settings and restrictions.
+pub fn in_type(t: Type, value: Value) -> bool
+    ensures { λ r. ⌜ r ≡ inType t value ⌝ }
+{
+    let parts = t.parts;
+    match parts {
+        Parts::Date(d) => match value {
+            Value::Date(date) => date_in(d, date),
+            Value::Time(_) => false,
+            Value::DateTime(_, _) => false,
+        },
+        Parts::Time(u) => match value {
+            Value::Date(_) => false,
+            Value::Time(time) => time_in(u, time),
+            Value::DateTime(_, _) => false,
+        },
+        Parts::DateTime(d, u) => match value {
+            Value::Date(_) => false,
+            Value::Time(_) => false,
+            Value::DateTime(date, time) => date_in(d, date) && time_in(u, time),
+        },
+    }
+}
+
+// Whether the type holds the value: it exists, and it is in the type.
+pub fn holds(t: Type, value: Value) -> bool
+    ensures { λ r. ⌜ r ≡ holdsOf t value ⌝ }
+{
+    value_exists(value) && in_type(t, value)
+}
