@@ -2,3 +2,4 @@
 pub mod Existence
 pub mod CheckedExistence
 pub mod Holding
+pub mod Existing

@@ -2,3 +2,5 @@
 pub mod Existence
 pub mod Forms
 pub mod Holding
+pub mod Admission
+pub mod Written

@@ -4,7 +4,8 @@ use native.Mathlib.Omega.{arith}
 use lib.ListN.{drop-of-length-le}
 use lib.Seq.{drop-drop}
 use borrow.Author.Needs.{needs}
-use Rattle.reading.proofs.Laws.Places.{drop-at, not-false, not-true, told}
+use Rattle.calendar.proofs.Laws.Bools.{not-false, not-true}
+use Rattle.reading.proofs.Laws.Places.{drop-at, told}
 use Rattle.reading.specs.Steps.{seenDate, seenTime}
 use Rattle.texts.specs.Texts.{getValue}
 use Rattle.reading.proofs.values.read_date_time.Statement.{statement}

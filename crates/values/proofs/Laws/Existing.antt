@@ -1,0 +1,175 @@
+-- Values that exist have the digits of their fields, and so the laws of texts hold of them; what a type holds is what its texts give.
+use mathlib.Core.Path.{_∙_, _≡_, ap, refl}
+use mathlib.Core.Bool.{Bool, cond, false, true}
+use mathlib.Core.List.{List}
+use Prim.Native.Nat.{_<_, _^_, _≤_, ℕ}
+use native.Mathlib.Omega.{arith}
+use lib.Dec.{leb}
+use lib.IntN.{natAbs, negsuc, pos, ℤ}
+use lib.ListN.{length, take}
+use borrow.Author.Tests.{leb-true}
+use Rattle.calendar.proofs.Laws.Bools.{both}
+use Rattle.calendar.proofs.Laws.Dates.{InRange, in-range}
+use Rattle.calendar.specs.Dates.{existsOf}
+use Rattle.calendar.specs.declared.dates.Date.{Date}
+use Rattle.answers.specs.declared.refusals.Refusal.{Refusal}
+use Rattle.printing.proofs.Laws.Canonical.{can-print, text-front, text-length, text-size}
+use Rattle.printing.specs.Canonical.{bufferWith, capacity, lengthIn, printable}
+use Rattle.settings.specs.Types.{formOf, formOfParts, wellFormed}
+use Rattle.settings.specs.declared.types.DateType.{DateType}
+use Rattle.settings.specs.declared.types.Parts.{Parts}
+use Rattle.settings.specs.declared.types.«Type».{«Type» as Ty}
+use Rattle.texts.proofs.Laws.Fits.{AfterFits, ClockFits, DateFits, Fits, TimeFits, YearFits, ZoneFits}
+use Rattle.texts.proofs.Laws.Forms.{one-value, other-form}
+use Rattle.texts.proofs.Laws.Texts.{read-render, render-read}
+use Rattle.texts.specs.Forms.{formDigits, valueForm, yearOf}
+use Rattle.texts.specs.Texts.{readOf, render, shownIn, textOf}
+use Rattle.texts.specs.Times.{canonical}
+use Rattle.texts.specs.Years.{longest}
+use Rattle.texts.specs.declared.forms.Form.{Form}
+use Rattle.texts.specs.declared.texts.TextRead.{TextRead}
+use Rattle.texts.specs.declared.values.Clock.{Clock}
+use Rattle.texts.specs.declared.values.Spelling.{Spelling}
+use Rattle.texts.specs.declared.values.Time.{Time}
+use Rattle.texts.specs.declared.values.Value.{Value}
+use Rattle.texts.specs.declared.values.Zone.{Zone}
+use Rattle.values.proofs.Laws.Existence.{ZoneInRange, time-range}
+use Rattle.values.proofs.Laws.Holding.{date-admitted, held, holds-both, in-type, years-range}
+use Rattle.values.specs.Admission.{admitted, judged, judgedRead}
+use Rattle.values.specs.Existence.{existsTime, existsValue, hoursOf, minutesOf, secondsOf}
+use Rattle.values.specs.Holding.{admits, admitsDate, admitsTime, between, holdsOf, inType}
+use Rattle.values.specs.declared.admission.Admission.{Admission}
+
+-- ---- what exists fits
+
+after-fits : (d : Date) → InRange d → AfterFits d
+unfolding AfterFits
+after-fits (Date.Y y) r = tt
+after-fits (Date.YM y month) r = omega (arith, r .1)
+after-fits (Date.YMD y month day) r = (omega (arith, r .1), omega (arith, r .3))
+after-fits (Date.YD y day) r = omega (arith, r .1)
+after-fits (Date.YW y week) r = omega (arith, r .1)
+after-fits (Date.YWD y week weekday) r = (omega (arith, r .1), omega (arith, r .3))
+
+clock-fits : (c : Clock) → hoursOf c ≤ 24 → minutesOf c ≤ 59 → secondsOf c ≤ 60 → ClockFits c
+unfolding ClockFits
+clock-fits (Clock.H h) a b d = omega arith
+clock-fits (Clock.HM h m) a b d = (omega arith, omega arith)
+clock-fits (Clock.HMS h m s) a b d = (omega arith, omega arith, omega arith)
+
+zone-fits : (z : Zone) → ZoneInRange z → ZoneFits z
+unfolding ZoneFits
+zone-fits Zone.L r = tt
+zone-fits Zone.Z r = tt
+zone-fits (Zone.LD difference) r = (omega (arith, r .hours), omega (arith, r .minutes))
+
+time-fits : (t : Time) → existsTime t ≡ true → TimeFits t × (t .digits ≤ 9)
+unfolding TimeFits
+time-fits t e =
+    let r = time-range t e in
+    ((clock-fits (t .clock) (r .hours) (r .minutes) (r .seconds), r .fraction, zone-fits (t .zone) (r .zone)), r .digits)
+
+-- A value whose year, if it has one, is of at most so many digits; every year of 64 bits is of at most 20 (fits-64).
+abbrev pub ShortYear : ℕ → Value → Type 0
+ShortYear most (Value.Date d) = YearFits most (yearOf d)
+ShortYear most (Value.Time t) = Unit {0}
+ShortYear most (Value.DateTime d t) = YearFits most (yearOf d)
+
+pub exists-fits : (most : ℕ) (v : Value) → existsValue v ≡ true → ShortYear most v → Fits most v
+unfolding Fits DateFits
+exists-fits most (Value.Date d) e y = (y, after-fits d (in-range d e))
+exists-fits most (Value.Time t) e y = time-fits t e
+exists-fits most (Value.DateTime d t) e y =
+    let p = both (existsOf d) (existsTime t) e in
+    let f = time-fits t (p .1) in
+    ((y, after-fits d (in-range d (p .0))), f .0, f .1)
+
+pub exists-digits : (v : Value) → existsValue v ≡ true → formDigits (valueForm v) ≤ 9
+exists-digits (Value.Date d) e = omega arith
+exists-digits (Value.Time t) e = time-range t e .digits
+exists-digits (Value.DateTime d t) e = time-range t (both (existsOf d) (existsTime t) e .1) .digits
+
+-- ---- texts of what exists
+
+-- Two existing values of any forms with one canonical text are equal.
+pub one-text : (v w : Value) → existsValue v ≡ true → existsValue w ≡ true → ShortYear 20 v → ShortYear 20 w → textOf v ≡ textOf w → v ≡ w
+one-text v w e f x y = one-value 20 (omega arith) (omega arith) canonical canonical v w (exists-fits 20 v e x) (exists-fits 20 w f y)
+
+-- The canonical text of an existing value, read at any other form, gives nothing.
+pub no-other-form : (v : Value) → existsValue v ≡ true → ShortYear 20 v → (f : Form) → (valueForm v ≡ f → ⊥) → readOf f (textOf v) ≡ TextRead.NotOfForm
+no-other-form v e y f = other-form 20 (omega arith) longest (omega arith) (omega arith) (omega arith) canonical v f (exists-fits 20 v e y)
+
+-- ---- texts of what a type holds
+
+five-digits : (y : ℤ) → between (negsuc 99998) (pos 99999) y ≡ true → natAbs y < 10 ^ longest
+unfolding between
+five-digits (pos n) e = omega (arith, leb-true n 99999 (both true (leb n 99999) e .1))
+five-digits (negsuc k) e = omega (arith, leb-true k 99998 (both (leb k 99998) true e .0))
+
+date-short : (t : DateType) (d : Date) → admitsDate t d ≡ true → YearFits longest (yearOf d)
+unfolding YearFits
+date-short t d e = let p = date-admitted t d e in five-digits _ (years-range (t .years) _ (p .0))
+
+admits-short : (p : Parts) (v : Value) → valueForm v ≡ formOfParts p → admits p v ≡ true → ShortYear longest v
+admits-short (Parts.Date t) (Value.Date d) f e = date-short t d e
+admits-short (Parts.Date t) (Value.Time u) f e = tt
+admits-short (Parts.Date t) (Value.DateTime d u) f e = date-short t d e
+admits-short (Parts.Time t) (Value.Date d) f e = absurd (let z : _≡_ {A = ℕ} 0 1 = cc in omega arith)
+admits-short (Parts.Time t) (Value.Time u) f e = tt
+admits-short (Parts.Time t) (Value.DateTime d u) f e = absurd (let z : _≡_ {A = ℕ} 0 1 = cc in omega arith)
+admits-short (Parts.DateTime t u) (Value.Date d) f e = date-short t d (both (admitsDate t d) true e .0)
+admits-short (Parts.DateTime t u) (Value.Time x) f e = tt
+admits-short (Parts.DateTime t u) (Value.DateTime d x) f e = date-short t d (both (admitsDate t d) (admitsTime u x) e .0)
+
+module _ (t : Ty) (v : Value) (h : holdsOf t v ≡ true) where
+  pub held-fits : Fits longest v
+  held-fits =
+      let p = held t v h in
+      let q = in-type t v (p .1) in
+      exists-fits longest v (p .0) (admits-short (t .parts) v (q .0) (q .1))
+
+  -- Any text of a value that the type holds is read at the type's form as that value.
+  pub held-read : (s : Spelling) → readOf (formOf t) (render s v) ≡ TextRead.Value v (shownIn s v)
+  held-read s =
+      let q = in-type t v (held t v h .1) in
+      rw (← q .0) (read-render longest (omega arith) (omega arith) s v held-fits)
+
+  -- And the type admits it, in every spelling.
+  pub held-admitted : wellFormed t ≡ true → (s : Spelling) → admitted t (render s v) ≡ Admission.Value v
+  unfolding admitted judged
+  held-admitted w s = let p = held t v h in rw (w, held-read s, p .0, p .1)
+
+judged-held : (t : Ty) (w v : Value) → judged t w ≡ Admission.Value v → (holdsOf t v ≡ true) × (w ≡ v)
+unfolding judged
+judged-held t w v = go (existsValue w) refl (inType t w) refl where
+  go : (a : Bool) → existsValue w ≡ a → (b : Bool) → inType t w ≡ b →
+      cond a (cond b (Admission.Value w) (Admission.Refused Refusal.Membership)) (Admission.Refused Refusal.Existence) ≡ Admission.Value v → (holdsOf t v ≡ true) × (w ≡ v)
+  go true x true y g = let z : w ≡ v = cc in (rw (← z) (holds-both t w x y), z)
+  go true x false y g = absurd (let z : _≡_ {A = ℕ} 0 1 = cc in omega arith)
+  go false x b y g = absurd (let z : _≡_ {A = ℕ} 0 1 = cc in omega arith)
+
+-- What a text gives under a type is a value that the type holds, and the text is one of its spellings.
+pub admitted-held : (t : Ty) (l : List ℕ) (v : Value) → admitted t l ≡ Admission.Value v →
+    (wellFormed t ≡ true) × (holdsOf t v ≡ true) × (s : Spelling) × (l ≡ render s v)
+unfolding admitted
+admitted-held t l v = go (wellFormed t) refl (readOf (formOf t) l) refl where
+  go : (a : Bool) → wellFormed t ≡ a → (r : TextRead) → readOf (formOf t) l ≡ r → cond a (judgedRead t r) (Admission.Refused Refusal.Settings) ≡ Admission.Value v →
+      (wellFormed t ≡ true) × (holdsOf t v ≡ true) × (s : Spelling) × (l ≡ render s v)
+  go true x (TextRead.Value w s) y g =
+      let p = judged-held t w v g in
+      let q = render-read longest (omega arith) (omega arith) (formOf t) l w s y in
+      (x, p .0, s, q .0 ∙ ap (render s) (p .1))
+  go true x TextRead.NotOfForm y g = absurd (let z : _≡_ {A = ℕ} 0 1 = cc in omega arith)
+  go false x r y g = absurd (let z : _≡_ {A = ℕ} 0 1 = cc in omega arith)
+
+-- ---- the canonical text of what exists, in a buffer that has room for it
+
+module _ (v : Value) (e : existsValue v ≡ true) (b : List ℕ) (k : capacity ≤ length b) {n : ℕ} (x : n ≡ lengthIn v b) where
+  prints : printable v b ≡ true
+  prints = can-print v b (exists-digits v e) k
+
+  pub text-short : n ≤ 53
+  text-short = omega (arith, text-size v b prints, text-length v (exists-digits v e))
+
+  pub text-taken : {m : List ℕ} → m ≡ bufferWith v b → take n m ≡ textOf v
+  text-taken y = rw (x, y) (text-front v b prints)

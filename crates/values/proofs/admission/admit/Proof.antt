@@ -1,0 +1,51 @@
+-- `admission::admit` meets its contract: a type, a text of its form, a value that it holds.
+use mathlib.Core.Path.{_∙_, sym}
+use borrow.Author.Needs.{needs}
+use borrow.Author.Tests.{not-false, not-true}
+use Rattle.values.specs.Admission.{admitted}
+use Rattle.values.proofs.admission.admit.Statement.{statement}
+use Rattle.values.proofs.admission.admit.Tie as tie
+
+well-formed-requires : tie.Need-well-formed-requires
+well-formed-requires c κs = search needs
+
+returns : tie.Need-returns
+unfolding admitted
+returns c = rw (sym (c .before .well-formed .ensures) ∙ not-true _ (c .if1 .taken))
+
+form-requires : tie.Need-form-requires
+form-requires c κs = search needs
+
+read-text-requires : tie.Need-read-text-requires
+read-text-requires c κs = search needs
+
+enum-known-value : tie.Need-enum-known-value
+enum-known-value c = search needs
+
+enum-told : tie.Need-enum-told
+enum-told c = search needs
+
+returns-2 : tie.Need-returns-2
+unfolding admitted
+returns-2 c = rw (sym (c .before .before .before .before .before .well-formed .ensures) ∙ not-false _ (c .before .before .before .before .if1 .left), ← c .before .before .before .form .ensures, sym (c .before .before .read-text .ensures) ∙ c .enum-told .given .1)
+
+judge-requires : tie.Need-judge-requires
+judge-requires c κs = search needs
+
+returns-3 : tie.Need-returns-3
+unfolding admitted
+returns-3 c = rw (sym (c .before .before .before .before .before .before .before .well-formed .ensures) ∙ not-false _ (c .before .before .before .before .before .before .if1 .left), ← c .before .before .before .before .before .form .ensures, sym (c .before .before .before .before .read-text .ensures) ∙ c .before .before .value .given .1) (c .judge .ensures)
+
+pub admit-spec : {M : Type 1} → statement M
+admit-spec =
+    tie.close
+    (tie.spec
+    well-formed-requires
+    returns
+    form-requires
+    read-text-requires
+    enum-known-value
+    enum-told
+    returns-2
+    judge-requires
+    returns-3)

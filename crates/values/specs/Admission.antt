@@ -1,0 +1,33 @@
+-- Which value a text gives under a type: "The seven numbers" 1 and 3 to 5, "the lowest number" first.
+use mathlib.Core.Bool.{cond}
+use mathlib.Core.List.{List}
+use Prim.Native.Nat.{ℕ}
+use Rattle.answers.specs.declared.refusals.Refusal.{Refusal}
+use Rattle.answers.specs.Refusals.{numberOf}
+use Rattle.texts.specs.declared.values.Value.{Value}
+use Rattle.texts.specs.declared.texts.TextRead.{TextRead}
+use Rattle.texts.specs.Texts.{readOf}
+use Rattle.settings.specs.declared.types.«Type».{«Type» as Ty}
+use Rattle.settings.specs.Types.{wellFormed, formOf}
+use Rattle.values.specs.declared.admission.Admission.{Admission}
+use Rattle.values.specs.Existence.{existsValue}
+use Rattle.values.specs.Holding.{inType}
+
+-- The number of each answer: 0 for a value.
+abbrev pub admissionNumber : Admission → ℕ
+admissionNumber (Admission.Value v) = 0
+admissionNumber (Admission.Refused why) = numberOf why
+
+-- 4: "no such date, time or difference"; 5: "exists, but not in the type".
+unfoldable pub judged : Ty → Value → Admission
+judged t v =
+    cond (existsValue v) (cond (inType t v) (Admission.Value v) (Admission.Refused Refusal.Membership)) (Admission.Refused Refusal.Existence)
+
+-- 3: "the text .. not of the type's form".
+abbrev pub judgedRead : Ty → TextRead → Admission
+judgedRead t (TextRead.Value v s) = judged t v
+judgedRead t TextRead.NotOfForm = Admission.Refused Refusal.Form
+
+-- A description that no settings and no name give is 1.
+unfoldable pub admitted : Ty → List ℕ → Admission
+admitted t l = cond (wellFormed t) (judgedRead t (readOf (formOf t) l)) (Admission.Refused Refusal.Settings)

@@ -1,0 +1,42 @@
+// Which value a text gives under a type, or why it gives none.
+ghost use mathlib.Core.Path.{_≡_};
+ghost use Rattle.values.specs.Admission.{judged, admitted};
+use crate::existence::value_exists;
+use crate::holding::in_type;
+use answers::Refusal;
+use reading::read_text;
+use settings::Type;
+use texts::TextRead;
+use texts::Value;
+
+// The value that a text gives under a type, or the refusal.
+pub enum Admission {
+    Value(Value),
+    Refused(Refusal),
+}
+
+// A value of the type's form: whether it exists, and whether it is in the type.
+fn judge(t: Type, value: Value) -> Admission
+    ensures { λ r. ⌜ r ≡ judged t value ⌝ }
+{
+    if !value_exists(value) {
+        return Admission::Refused(Refusal::Existence);
+    }
+    if in_type(t, value) {
+        return Admission::Value(value);
+    }
+    Admission::Refused(Refusal::Membership)
+}
+
+// What a text of any octets gives under any type.
+pub fn admit(t: Type, text: &[u8]) -> Admission
+    ensures { λ r. ⌜ r ≡ admitted t (now (text .entry)) ⌝ }
+{
+    if !t.well_formed() {
+        return Admission::Refused(Refusal::Settings);
+    }
+    let TextRead::Value(value, _) = read_text(t.form(), text) else {
+        return Admission::Refused(Refusal::Form);
+    };
+    judge(t, value)
+}
