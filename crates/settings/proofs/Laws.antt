@@ -1,12 +1,8 @@
--- The laws of types, values and texts.
-pub mod Octets
-pub mod Words
-pub mod Pieces
-pub mod Lists
+-- The laws of types.
 pub mod TypeTexts
 pub mod CheckedTypes
 pub mod Joining
-pub mod Order
 pub mod Written
 pub mod Complete
+pub mod ListOrder
 pub mod WellFormed

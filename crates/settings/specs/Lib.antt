@@ -1,9 +1,6 @@
--- What a reader must believe of types, values and texts, in the paper's order.
-pub mod Octets
+-- What a reader must believe of types, in the order of the paper's "What a type is".
 pub mod Settings
 pub mod Types
 pub mod Rows
-pub mod Words
-pub mod Lists
 pub mod TypeTexts
 pub mod Written

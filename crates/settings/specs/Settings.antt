@@ -15,6 +15,7 @@ dateNumber DateForm.YD = 4
 dateNumber DateForm.YW = 5
 dateNumber DateForm.YWD = 6
 
+-- The Date setting with a number from 1 to 6.
 unfoldable pub dateAt : ℕ → DateForm
 dateAt n =
     cond (eqb n 1) DateForm.Y
@@ -29,6 +30,7 @@ clockNumber ClockForm.H = 1
 clockNumber ClockForm.HM = 2
 clockNumber ClockForm.HMS = 3
 
+-- The Time setting with a number from 1 to 3, its fraction aside.
 unfoldable pub clockAt : ℕ → ClockForm
 clockAt n = cond (eqb n 1) ClockForm.H (cond (eqb n 2) ClockForm.HM ClockForm.HMS)
 
@@ -38,5 +40,6 @@ zoneNumber ZoneForm.L = 1
 zoneNumber ZoneForm.Z = 2
 zoneNumber ZoneForm.LD = 3
 
+-- The Local-or-UTC setting with a number from 1 to 3.
 unfoldable pub zoneAt : ℕ → ZoneForm
 zoneAt n = cond (eqb n 1) ZoneForm.L (cond (eqb n 2) ZoneForm.Z ZoneForm.LD)

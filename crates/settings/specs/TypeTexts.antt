@@ -4,22 +4,23 @@ use mathlib.Core.Bool.{Bool, true, false, not, _&&_, _||_, cond}
 use mathlib.Core.List.{List, [], _∷_, map}
 use lib.Dec.{eqb, leb}
 use lib.ListN.{length}
-use Rattle.settings.specs.Octets.{bytes, eqList}
+use Rattle.lists.specs.Octets.{bytes, eqList}
 use Rattle.settings.specs.Settings.{dateAt, clockAt, zoneAt}
 use Rattle.settings.specs.Types.{listed, unlimitedDate, unlimitedTime, DATE, TIME-OF-DAY, DATE-TIME, placed, limitedTo}
-use Rattle.settings.specs.Lists.{splitOn, basicIn, dateIn, yearIn, timeIn, zoneIn, datedList, timedList, listOf}
+use Rattle.lists.specs.Lists.{splitOn, basicIn, dateIn, yearIn, timeIn, zoneIn, datedList, timedList, listOf}
 use Rattle.texts.specs.declared.forms.TimeForm.{TimeForm}
 use Rattle.settings.specs.declared.types.Years.{Years}
 use Rattle.settings.specs.declared.types.Parts.{Parts}
 use Rattle.settings.specs.declared.types.«Type».{«Type»}
 use Rattle.settings.specs.declared.types.Limits.{Limits}
 use Rattle.settings.specs.declared.types.TypeRead.{TypeRead}
-use Rattle.settings.specs.declared.lists.Settings.{Settings}
+use Rattle.lists.specs.declared.lists.Settings.{Settings}
 
 -- "A type is one settings list, or two with `|` between them."
 abbrev pub mostLists : ℕ
 mostLists = 2
 
+-- The lists of a text, split at its bars.
 unfoldable pub listsOf : List ℕ → List Settings
 listsOf l = map listOf (splitOn 124 l)
 
@@ -32,6 +33,7 @@ sameButYear s t =
 unfoldable pub yearFamily : ℕ → ℕ
 yearFamily n = cond (leb n 2) 1 2
 
+-- Two lists of one row.
 unfoldable pub oneRow : Settings → Settings → Bool
 oneRow s t = sameButYear s t && eqb (yearFamily (yearIn s)) (yearFamily (yearIn t))
 
@@ -39,10 +41,12 @@ oneRow s t = sameButYear s t && eqb (yearFamily (yearIn s)) (yearFamily (yearIn 
 unfoldable pub equalLists : Settings → Settings → Bool
 equalLists s t = sameButYear s t && eqb (yearIn s) (yearIn t)
 
+-- Whether all members pass a test.
 unfoldable pub allOf : {A : Type 0} → (A → Bool) → List A → Bool
 allOf p [] = true
 allOf p (x ∷ l) = p x && allOf p l
 
+-- Whether no list comes twice.
 unfoldable pub distinct : List Settings → Bool
 distinct [] = true
 distinct (s ∷ r) = allOf (λ t. not (equalLists s t)) r && distinct r
@@ -51,6 +55,7 @@ distinct (s ∷ r) = allOf (λ t. not (equalLists s t)) r && distinct r
 unfoldable pub usable : Limits → Settings → Bool
 usable limits s = s .readable && placed limits (datedList s) (timedList s)
 
+-- Whether a number is among others.
 unfoldable pub member : ℕ → List ℕ → Bool
 member n [] = false
 member n (x ∷ l) = eqb x n || member n l
@@ -62,6 +67,7 @@ yearsOf ys =
     (Years.Plain (record { basic = member 1 ys; proleptic = member 2 ys }))
     (Years.Signed (record { negative = member 3 ys; five = member 4 ys }))
 
+-- The form of a time with these settings: of Time, the tens are n and the ones H, HM or HMS.
 unfoldable pub timeAt : ℕ → ℕ → TimeForm
 timeAt t z = record { clock = clockAt (t % 10); digits = t / 10; zone = zoneAt z }
 

@@ -3,7 +3,7 @@ use Prim.Native.Nat.{ℕ, _+_}
 use mathlib.Core.Bool.{Bool, true, false, cond}
 use mathlib.Core.List.{List, [], _∷_, _++_, map, List·Permᴰ}
 use lib.Dec.{eqb}
-use Rattle.settings.specs.Octets.{bytes}
+use Rattle.lists.specs.Octets.{bytes}
 use Rattle.texts.specs.declared.forms.DateForm.{DateForm}
 use Rattle.texts.specs.declared.forms.ClockForm.{ClockForm}
 use Rattle.texts.specs.declared.forms.ZoneForm.{ZoneForm}
@@ -27,18 +27,20 @@ pub data YearSetting : Type 0 where
   negative : YearSetting
   five : YearSetting
 
+-- The word of a Year setting.
 abbrev pub yearWord : YearSetting → List ℕ
 yearWord basic = bytes "Year=Basic"
 yearWord proleptic = bytes "Year=Proleptic"
 yearWord negative = bytes "Year=Negative"
 yearWord five = bytes "Year=L5"
 
--- "`Time`: H, HM, HMS, HFn, HMFn, HMSFn": F and the digit n where there is a fraction.
+-- "`Time`: H, HM, HMS, ..
 abbrev pub clockWord : ClockForm → List ℕ
 clockWord ClockForm.H = bytes "Time=H"
 clockWord ClockForm.HM = bytes "Time=HM"
 clockWord ClockForm.HMS = bytes "Time=HMS"
 
+-- .. HFn, HMFn, HMSFn": F and the digit n where there is a fraction.
 abbrev pub timeWord : ClockForm → ℕ → List ℕ
 timeWord c n = cond (eqb n 0) (clockWord c) (clockWord c ++ bytes "F" ++ (48 + n) ∷ [])
 
@@ -48,22 +50,25 @@ zoneWord ZoneForm.L = bytes "Local-or-UTC=L"
 zoneWord ZoneForm.Z = bytes "Local-or-UTC=Z"
 zoneWord ZoneForm.LD = bytes "Local-or-UTC=LD"
 
--- The pairs of a list.
+-- The pairs of a list with a date, ..
 abbrev pub dateWords : DateForm → YearSetting → List (List ℕ)
 dateWords f y = bytes "Basic=Date" ∷ dateWord f ∷ yearWord y ∷ []
 
+-- .. with a time, ..
 abbrev pub timeWords : TimeForm → List (List ℕ)
 timeWords t = bytes "Basic=Time" ∷ timeWord (t .clock) (t .digits) ∷ zoneWord (t .zone) ∷ []
 
+-- .. and with both.
 abbrev pub dateTimeWords : DateForm → TimeForm → YearSetting → List (List ℕ)
 dateTimeWords f t y =
     bytes "Basic=Date-Time" ∷ dateWord f ∷ yearWord y ∷ timeWord (t .clock) (t .digits) ∷ zoneWord (t .zone) ∷ []
 
--- The Years that a type names.
+-- One Year more, where it is named.
 abbrev pub andNamed : Bool → YearSetting → List YearSetting → List YearSetting
 andNamed true y l = y ∷ l
 andNamed false y l = l
 
+-- The Years that a type names.
 abbrev pub namedYears : Years → List YearSetting
 namedYears (Years.Plain y) = andNamed (y .basic) basic (andNamed (y .proleptic) proleptic [])
 namedYears (Years.Signed y) = andNamed (y .negative) negative (andNamed (y .five) five [])

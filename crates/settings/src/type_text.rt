@@ -1,12 +1,8 @@
 ghost use mathlib.Core.Path.{_≡_};
 ghost use mathlib.Core.List.{[], _∷_};
-ghost use Rattle.settings.specs.Lists.{yearIn};
+ghost use Rattle.settings.specs.Types.{limitedTo};
+ghost use Rattle.lists.specs.Lists.{yearIn};
 ghost use Rattle.settings.specs.TypeTexts.{joined, listsOf, listType, member, sameButYear, timeAt, typeOf, usable, yearFamily, yearsOf};
-use crate::lists::Settings;
-use crate::lists::find;
-use crate::lists::list_has_date;
-use crate::lists::list_has_time;
-use crate::lists::read_list;
 use crate::settings::clock_at;
 use crate::settings::date_at;
 use crate::settings::zone_at;
@@ -17,7 +13,17 @@ use crate::types::Type;
 use crate::types::TypeRead;
 use crate::types::Years;
 use crate::types::has_place;
-use crate::words::same;
+use lists::lists::Settings;
+use lists::lists::find;
+use lists::lists::list_has_date;
+use lists::lists::list_has_time;
+use lists::lists::read_list;
+use lists::words::BASIC;
+use lists::words::DATE;
+use lists::words::TIME;
+use lists::words::YEAR;
+use lists::words::ZONE;
+use lists::words::same;
 use texts::TimeForm;
 
 // Whether one of two Years has this number.
@@ -64,10 +70,10 @@ fn time_at(time: u32, zone: u32) -> TimeForm
 fn list_type(list: Settings, other: u32) -> Type
     ensures { λ r. ⌜ r ≡ listType list (yearIn list ∷ other ∷ []) ⌝ }
 {
-    let basic = list.numbers[0];
-    let date = date_at(list.numbers[1]);
-    let years = years_of(list.numbers[2], other);
-    let time = time_at(list.numbers[3], list.numbers[4]);
+    let basic = list.numbers[BASIC];
+    let date = date_at(list.numbers[DATE]);
+    let years = years_of(list.numbers[YEAR], other);
+    let time = time_at(list.numbers[TIME], list.numbers[ZONE]);
     if basic == 1 {
         return Type::date(date, years);
     }
@@ -75,6 +81,13 @@ fn list_type(list: Settings, other: u32) -> Type
         return Type::time(time);
     }
     Type::date_time(date, years, time)
+}
+
+// The same under limits.
+fn limited_list(limits: Limits, list: Settings, other: u32) -> TypeRead
+    ensures { λ r. ⌜ r ≡ limitedTo limits (listType list (yearIn list ∷ other ∷ [])) ⌝ }
+{
+    list_type(list, other).limited(limits)
 }
 
 // Whether a list can be read and the limits have their place in it.
@@ -101,16 +114,16 @@ fn year_family(year: u32) -> u32
 fn same_but_year(a: Settings, b: Settings) -> bool
     ensures { λ r. ⌜ r ≡ sameButYear a b ⌝ }
 {
-    if a.numbers[0] != b.numbers[0] {
+    if a.numbers[BASIC] != b.numbers[BASIC] {
         return false;
     }
-    if a.numbers[1] != b.numbers[1] {
+    if a.numbers[DATE] != b.numbers[DATE] {
         return false;
     }
-    if a.numbers[3] != b.numbers[3] {
+    if a.numbers[TIME] != b.numbers[TIME] {
         return false;
     }
-    a.numbers[4] == b.numbers[4]
+    a.numbers[ZONE] == b.numbers[ZONE]
 }
 
 // The type of one list.
@@ -120,7 +133,7 @@ fn one_list(limits: Limits, list: Settings) -> TypeRead
     if !is_usable(limits, list) {
         return TypeRead::Unreadable;
     }
-    list_type(list, 0).limited(limits)
+    limited_list(limits, list, 0)
 }
 
 // The type of two lists.
@@ -136,15 +149,15 @@ fn two_lists(limits: Limits, a: Settings, b: Settings) -> TypeRead
     if !same_but_year(a, b) {
         return TypeRead::NoRow;
     }
-    let first = a.numbers[2];
-    let second = b.numbers[2];
+    let first = a.numbers[YEAR];
+    let second = b.numbers[YEAR];
     if first == second {
         return TypeRead::Unreadable;
     }
     if year_family(first) != year_family(second) {
         return TypeRead::NoRow;
     }
-    list_type(a, second).limited(limits)
+    limited_list(limits, a, second)
 }
 
 // The type of a text that is no name.

@@ -1,6 +1,6 @@
 ghost use mathlib.Core.Path.{_≡_};
 ghost use mathlib.Core.Bool.{_||_};
-ghost use Rattle.settings.specs.Types.{basicAlone, dated, everyYear, formOf, fractionDigits, limitedTo, listed, localHms, ownSettings, placed, restricted, someYear, timed, unlimitedDate, unlimitedTime, basicYmd, wellFormed, wellParts};
+ghost use Rattle.settings.specs.Types.{basicAlone, dated, digitsOfParts, everyYear, formOf, formOfParts, fractionDigits, inWindow, limitedTo, listed, localHms, ownSettings, placed, restricted, someYear, timed, unlimitedDate, unlimitedTime, basicYmd, wellFormed, wellParts, withHour24};
 use crate::settings::clock_number;
 use crate::settings::date_number;
 use crate::settings::zone_number;
@@ -137,6 +137,34 @@ fn has_time(parts: Parts) -> bool
     }
 }
 
+// Whether limits have their place beside these settings.
+fn fits(limits: Limits, parts: Parts) -> bool
+    ensures { λ r. ⌜ r ≡ placed limits (dated parts) (timed parts) ⌝ }
+{
+    has_place(limits, has_date(parts), has_time(parts))
+}
+
+// The same date with this lowest and highest year.
+fn in_window(window: Window, date: DateType) -> DateType
+    ensures { λ r. ⌜ r ≡ inWindow window date ⌝ }
+{
+    let form = date.form;
+    let years = date.years;
+    DateType {
+        form,
+        years,
+        window,
+    }
+}
+
+// The same time with or without hour 24.
+fn with_hour24(hour24: bool, time: TimeType) -> TimeType
+    ensures { λ r. ⌜ r ≡ withHour24 hour24 time ⌝ }
+{
+    let form = time.form;
+    TimeType { form, hour24 }
+}
+
 // The same settings under these limits.
 fn restrict(limits: Limits, parts: Parts) -> Parts
     ensures { λ r. ⌜ r ≡ restricted limits parts ⌝ }
@@ -144,35 +172,9 @@ fn restrict(limits: Limits, parts: Parts) -> Parts
     let window = limits.window;
     let hour24 = limits.hour24;
     match parts {
-        Parts::Date(d) => {
-            let form = d.form;
-            let years = d.years;
-            Parts::Date(DateType {
-                form,
-                years,
-                window,
-            })
-        }
-        Parts::Time(t) => {
-            let form = t.form;
-            Parts::Time(TimeType { form, hour24 })
-        }
-        Parts::DateTime(d, t) => {
-            let form = d.form;
-            let years = d.years;
-            let time_form = t.form;
-            Parts::DateTime(
-                DateType {
-                    form,
-                    years,
-                    window,
-                },
-                TimeType {
-                    form: time_form,
-                    hour24,
-                },
-            )
-        }
+        Parts::Date(d) => Parts::Date(in_window(window, d)),
+        Parts::Time(t) => Parts::Time(with_hour24(hour24, t)),
+        Parts::DateTime(d, t) => Parts::DateTime(in_window(window, d), with_hour24(hour24, t)),
     }
 }
 
@@ -230,14 +232,10 @@ fn well_parts(parts: Parts) -> bool
             let years = d.years;
             some_year(years)
         }
-        Parts::Time(t) => {
-            let form = t.form;
-            form.digits <= 9
-        }
+        Parts::Time(t) => time_digits(t) <= 9,
         Parts::DateTime(d, t) => {
             let years = d.years;
-            let form = t.form;
-            some_year(years) && form.digits <= 9
+            some_year(years) && time_digits(t) <= 9
         }
     }
 }
@@ -263,6 +261,46 @@ fn own_settings(name: Name, parts: Parts) -> bool
             Parts::Time(_) => false,
             Parts::DateTime(d, t) => basic_ymd(d) && local_hms(t),
         },
+    }
+}
+
+// The form of the texts of values with these settings.
+fn form_of(parts: Parts) -> Form
+    ensures { λ r. ⌜ r ≡ formOfParts parts ⌝ }
+{
+    match parts {
+        Parts::Date(d) => {
+            let form = d.form;
+            Form::Date(form)
+        }
+        Parts::Time(t) => {
+            let form = t.form;
+            Form::Time(form)
+        }
+        Parts::DateTime(d, t) => {
+            let date = d.form;
+            let time = t.form;
+            Form::DateTime(date, time)
+        }
+    }
+}
+
+// The number of fraction digits of a time.
+fn time_digits(time: TimeType) -> u32
+    ensures { λ r. ⌜ r ≡ time .form .digits ⌝ }
+{
+    let form = time.form;
+    form.digits
+}
+
+// The number of fraction digits, 0 without a fraction.
+fn digits_of(parts: Parts) -> u32
+    ensures { λ r. ⌜ r ≡ digitsOfParts parts ⌝ }
+{
+    match parts {
+        Parts::Date(_) => 0,
+        Parts::Time(t) => time_digits(t),
+        Parts::DateTime(_, t) => time_digits(t),
     }
 }
 
@@ -340,8 +378,8 @@ impl Type {
     }
 
     // The type of a date with a time with these settings.
-    pub fn date_time(form: DateForm, years: Years, clock: TimeForm) -> Type
-        ensures { λ r. ⌜ r ≡ listed (Parts.DateTime (unlimitedDate form years) (unlimitedTime clock)) ⌝ }
+    pub fn date_time(form: DateForm, years: Years, time: TimeForm) -> Type
+        ensures { λ r. ⌜ r ≡ listed (Parts.DateTime (unlimitedDate form years) (unlimitedTime time)) ⌝ }
     {
         let name = Name::Listed;
         let window = Window::Every;
@@ -350,11 +388,11 @@ impl Type {
             years,
             window,
         };
-        let time = TimeType {
-            form: clock,
+        let clock = TimeType {
+            form: time,
             hour24: true,
         };
-        let parts = Parts::DateTime(date, time);
+        let parts = Parts::DateTime(date, clock);
         Type { name, parts }
     }
 
@@ -364,7 +402,7 @@ impl Type {
     {
         let name = self.name;
         let parts = self.parts;
-        if !has_place(limits, has_date(parts), has_time(parts)) {
+        if !fits(limits, parts) {
             return TypeRead::Unreadable;
         }
         let parts = restrict(limits, parts);
@@ -385,21 +423,7 @@ impl Type {
         ensures { λ r. ⌜ r ≡ formOf self ⌝ }
     {
         let parts = self.parts;
-        match parts {
-            Parts::Date(d) => {
-                let form = d.form;
-                Form::Date(form)
-            }
-            Parts::Time(t) => {
-                let form = t.form;
-                Form::Time(form)
-            }
-            Parts::DateTime(d, t) => {
-                let form = d.form;
-                let time_form = t.form;
-                Form::DateTime(form, time_form)
-            }
-        }
+        form_of(parts)
     }
 
     // The number of fraction digits, 0 without a fraction.
@@ -407,16 +431,6 @@ impl Type {
         ensures { λ r. ⌜ r ≡ fractionDigits self ⌝ }
     {
         let parts = self.parts;
-        match parts {
-            Parts::Date(_) => 0,
-            Parts::Time(t) => {
-                let form = t.form;
-                form.digits
-            }
-            Parts::DateTime(_, t) => {
-                let form = t.form;
-                form.digits
-            }
-        }
+        digits_of(parts)
     }
 }

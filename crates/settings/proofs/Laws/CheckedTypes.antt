@@ -8,12 +8,12 @@ use Prim.Native.String.{String}
 use lib.Dec.{eqb}
 use lib.IntN.{pos}
 use Rattle.calendar.specs.Years.{yearAt}
-use Rattle.settings.specs.Octets.{bytes, eqList}
+use Rattle.lists.specs.Octets.{bytes, eqList}
 use Rattle.settings.specs.Settings.{dateAt, clockAt, zoneAt}
 use Rattle.settings.specs.Types.{typeNumber, placed, limitedTo, noLimits, fractionDigits}
 use Rattle.settings.specs.Rows.{timeNumber, sameRow, sameRows}
-use Rattle.settings.specs.Words.{placeFrom, fractionNumber, pairOf}
-use Rattle.settings.specs.Lists.{splitOn, addPair, addPairs, datedList, timedList, complete, completed, listOf}
+use Rattle.lists.specs.Words.{placeFrom, fractionNumber, pairOf}
+use Rattle.lists.specs.Lists.{splitOn, addPair, addPairs, datedList, timedList, complete, completed, listOf}
 use Rattle.settings.specs.TypeTexts.{listsOf, sameButYear, yearFamily, oneRow, equalLists, allOf, distinct, usable, member, yearsOf, timeAt, listType, joined, typeOf}
 use Rattle.settings.specs.declared.types.Window.{Window}
 use Rattle.settings.specs.declared.types.Limits.{Limits}

@@ -1,27 +1,25 @@
 -- Completeness: every well-formed type that is no name is read from its settings, their pairs in any order.
-use mathlib.Core.Path.{_≡_, refl, ap, sym, _∙_}
+use mathlib.Core.Path.{_≡_, refl, ap, _∙_}
 use mathlib.Core.List.{List, [], _∷_, map, List·Permᴰ, Permᴰ·refl}
-use mathlib.Core.Bool.{Bool, true, false, _&&_, cond, and-eq-true-iff, or-true}
+use mathlib.Core.Bool.{Bool, true, false, cond, and-eq-true-iff, or-true}
 use Prim.Native.Nat.{ℕ, _<_, _≤_}
 use native.Mathlib.Omega.{arith}
-use lib.Dec.{leb}
 use lib.ListN.{length}
 use borrow.Author.Tests.{leb-true}
-use Rattle.settings.specs.Octets.{bytes, eqList}
+use Rattle.lists.specs.Octets.{bytes, eqList}
 use Rattle.settings.specs.Types.{listed, DATE, TIME-OF-DAY, DATE-TIME, everyYear, dated, timed, placed, restricted, limitedTo, noLimits, limitsOf, someYear, fewDigits, wellParts, wellFormed}
 use Rattle.settings.specs.TypeTexts.{allOf, joined, typeOf}
 use Rattle.settings.specs.Written.{YearSetting, basic, dateWords, timeWords, dateTimeWords, namedYears, listsFor, joinWith, typeText, Arranged, end, more}
 use Rattle.texts.specs.declared.forms.DateForm.{DateForm}
 use Rattle.texts.specs.declared.forms.TimeForm.{TimeForm}
-use Rattle.settings.specs.declared.types.DateType.{DateType}
 use Rattle.settings.specs.declared.types.TimeType.{TimeType}
 use Rattle.settings.specs.declared.types.Parts.{Parts}
 use Rattle.settings.specs.declared.types.Name.{Name}
 use Rattle.settings.specs.declared.types.«Type».{«Type»}
 use Rattle.settings.specs.declared.types.Limits.{Limits}
 use Rattle.settings.specs.declared.types.TypeRead.{TypeRead}
-use Rattle.settings.specs.declared.lists.Settings.{Settings}
-use Rattle.settings.proofs.Laws.Written.{dateList, timeList, dateTimeList, date-list, time-list, date-time-list, isWord, basic-words, date-is-word, year-is-word, zone-is-word, time-is-word, ListText, list-text, text-read, some-named, date-joined, time-joined, date-time-joined}
+use Rattle.lists.specs.declared.lists.Settings.{Settings}
+use Rattle.settings.proofs.Laws.Written.{dateList, timeList, dateTimeList, date-list, time-list, date-time-list, basic-words, date-is-word, year-is-word, zone-is-word, time-is-word, ListText, list-text, text-read, some-named, date-joined, time-joined, date-time-joined}
 
 -- Each list of a type, its pairs in any order, is read.
 date-text : (f : DateForm) (y : YearSetting) (ws : List (List ℕ)) → List·Permᴰ ws (dateWords f y) → ListText ws (dateList f y)
@@ -35,7 +33,8 @@ time-text t k =
     (rw (basic-words .1, time-is-word (t .clock) (t .digits) k, zone-is-word (t .zone)))
     (time-list t k)
 
-date-time-text : (f : DateForm) (t : TimeForm) → t .digits ≤ 9 → (y : YearSetting) (ws : List (List ℕ)) → List·Permᴰ ws (dateTimeWords f t y) → ListText ws (dateTimeList f t y)
+date-time-text : (f : DateForm) (t : TimeForm) → t .digits ≤ 9 → (y : YearSetting) (ws : List (List ℕ)) →
+    List·Permᴰ ws (dateTimeWords f t y) → ListText ws (dateTimeList f t y)
 unfolding allOf
 date-time-text f t k y =
     list-text (dateTimeWords f t y) (dateTimeList f t y) (omega arith)
@@ -43,7 +42,8 @@ date-time-text f t k y =
     (date-time-list f t k y)
 
 -- The lists of at least one Year are read and joined.
-some-read : (f : YearSetting → List (List ℕ)) (g : YearSetting → Settings) → ((y : YearSetting) (ws : List (List ℕ)) → List·Permᴰ ws (f y) → ListText ws (g y)) →
+some-read : (f : YearSetting → List (List ℕ)) (g : YearSetting → Settings) →
+    ((y : YearSetting) (ws : List (List ℕ)) → List·Permᴰ ws (f y) → ListText ws (g y)) →
     (limits : Limits) (ys : List YearSetting) → 0 < length ys → {wss : List (List (List ℕ))} → Arranged wss (map f ys) →
     typeOf limits (typeText wss) ≡ joined limits (map g ys)
 some-read f g k limits [] h r = absurd (omega arith)
@@ -54,7 +54,8 @@ few t h = leb-true (t .form .digits) 9 h
 
 -- The settings of a type, in any order and under any limits, give that type under these limits, or 1 where they have
 -- no place.
-pub settings-read : (limits : Limits) (p : Parts) → wellParts p ≡ true → {wss : List (List (List ℕ))} → Arranged wss (listsFor p) →
+pub settings-read : (limits : Limits) (p : Parts) → wellParts p ≡ true → {wss : List (List (List ℕ))} →
+    Arranged wss (listsFor p) →
     typeOf limits (typeText wss) ≡ limitedTo limits (listed p)
 settings-read limits (Parts.Date d) h r =
     some-read _ _ (date-text (d .form)) limits (namedYears (d .years)) (some-named (d .years) h) r ∙ date-joined limits d h
@@ -82,7 +83,8 @@ unfolding limitedTo
 own-limits p = rw (limits-placed p, limits-kept p)
 
 -- Every well-formed type that is no name is read from its settings, in any order, with its own limits.
-pub complete : (t : «Type») → wellFormed t ≡ true → t .name ≡ Name.Listed → {wss : List (List (List ℕ))} → Arranged wss (listsFor (t .parts)) →
+pub complete : (t : «Type») → wellFormed t ≡ true → t .name ≡ Name.Listed → {wss : List (List (List ℕ))} →
+    Arranged wss (listsFor (t .parts)) →
     typeOf (limitsOf (t .parts)) (typeText wss) ≡ TypeRead.«Type» t
 unfolding wellFormed
 complete t h n r =
@@ -90,18 +92,22 @@ complete t h n r =
     settings-read (limitsOf (t .parts)) (t .parts) (p .0) r ∙ own-limits (t .parts) ∙ rw (← n)
 
 -- In particular, a type without limits is read without limits, ..
-pub complete-unlimited : (t : «Type») → wellFormed t ≡ true → t .name ≡ Name.Listed → limitsOf (t .parts) ≡ noLimits → {wss : List (List (List ℕ))} → Arranged wss (listsFor (t .parts)) →
+pub complete-unlimited : (t : «Type») → wellFormed t ≡ true → t .name ≡ Name.Listed → limitsOf (t .parts) ≡ noLimits →
+    {wss : List (List (List ℕ))} → Arranged wss (listsFor (t .parts)) →
     typeOf noLimits (typeText wss) ≡ TypeRead.«Type» t
 complete-unlimited t h n l r = rw (← l) (complete t h n r)
 
 -- .. and limits that have their place give the type under them.
-pub complete-limited : (limits : Limits) (t : «Type») → wellFormed t ≡ true → placed limits (dated (t .parts)) (timed (t .parts)) ≡ true → {wss : List (List (List ℕ))} → Arranged wss (listsFor (t .parts)) →
+pub complete-limited : (limits : Limits) (t : «Type») → wellFormed t ≡ true →
+    placed limits (dated (t .parts)) (timed (t .parts)) ≡ true → {wss : List (List (List ℕ))} →
+    Arranged wss (listsFor (t .parts)) →
     typeOf limits (typeText wss) ≡ TypeRead.«Type» (listed (restricted limits (t .parts)))
 unfolding wellFormed limitedTo
 complete-limited limits t h k r =
     let p : (wellParts (t .parts) ≡ true) × _ = and-eq-true-iff _ _ .0 h in
     settings-read limits (t .parts) (p .0) r ∙ rw k
 
+-- Pairs may stand in their own order.
 pub in-order : (wss : List (List (List ℕ))) → Arranged wss wss
 in-order [] = end
 in-order (ws ∷ wss) = more (Permᴰ·refl ws) (in-order wss)

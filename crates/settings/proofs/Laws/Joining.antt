@@ -6,10 +6,11 @@ use Prim.Native.Nat.{ℕ, suc}
 use lib.Dec.{eqb}
 use lib.ListN.{length}
 use borrow.Author.Tests.{not-true}
-use Rattle.settings.specs.Lists.{splitOn}
+use Rattle.lists.specs.Lists.{splitOn}
 use Rattle.settings.specs.TypeTexts.{allOf}
 use Rattle.settings.specs.Written.{joinWith}
 
+-- Whether a text lacks an octet.
 unfoldable pub lacks : ℕ → List ℕ → Bool
 lacks c [] = true
 lacks c (x ∷ l) = not (eqb x c) && lacks c l
@@ -28,7 +29,9 @@ split-front c (x ∷ w) l e r =
     let p : (not (eqb x c) ≡ true) × (lacks c w ≡ true) = and-eq-true-iff _ _ .0 e in
     rw (not-true (eqb x c) (p .0), split-front c w l (p .1) r)
 
-pub split-join : (c : ℕ) (w : List ℕ) (ws : List (List ℕ)) → eqb c c ≡ true → allOf (lacks c) (w ∷ ws) ≡ true → splitOn c (joinWith c (w ∷ ws)) ≡ w ∷ ws
+-- Joined pieces are split again.
+pub split-join : (c : ℕ) (w : List ℕ) (ws : List (List ℕ)) → eqb c c ≡ true → allOf (lacks c) (w ∷ ws) ≡ true →
+    splitOn c (joinWith c (w ∷ ws)) ≡ w ∷ ws
 unfolding joinWith allOf
 split-join c w [] r e = split-one c w (and-eq-true-iff _ _ .0 e .0)
 split-join c w (v ∷ ws) r e =
@@ -66,12 +69,12 @@ unfolding joinWith
 has-join c d w [] e = e
 has-join c d w (v ∷ ws) e = has-append c w _ e
 
--- What is true of every piece is so in any order, and what follows from it is too.
 swap-and : (a b c : Bool) → (a && (b && c)) ≡ (b && (a && c))
 swap-and true b c = refl
 swap-and false true c = refl
 swap-and false false c = refl
 
+-- What is true of every piece is so in any order, ..
 pub all-perm : {A : Type 0} (p : A → Bool) {a b : List A} → List·Permᴰ a b → allOf p a ≡ allOf p b
 unfolding allOf
 all-perm p List·Permᴰ·nil = refl
@@ -79,13 +82,16 @@ all-perm p (List·Permᴰ·cons e d) = rw (e, all-perm p d)
 all-perm p (List·Permᴰ·swap {a = a} {b = b} {l = l} e g) = rw (← e, ← g) (swap-and (p a) (p b) (allOf p l))
 all-perm p (List·Permᴰ·trans d e) = all-perm p d ∙ all-perm p e
 
-pub all-weaken : {A : Type 0} (p q : A → Bool) → ((x : A) → p x ≡ true → q x ≡ true) → (l : List A) → allOf p l ≡ true → allOf q l ≡ true
+-- .. and so is what follows from it.
+pub all-weaken : {A : Type 0} (p q : A → Bool) → ((x : A) → p x ≡ true → q x ≡ true) → (l : List A) → allOf p l ≡ true →
+    allOf q l ≡ true
 unfolding allOf
 all-weaken p q f [] e = refl
 all-weaken p q f (x ∷ l) e =
     let h : (p x ≡ true) × (allOf p l ≡ true) = and-eq-true-iff _ _ .0 e in
     rw (f x (h .0), all-weaken p q f l (h .1))
 
+-- An order changes no length.
 pub length-perm : {A : Type 0} {a b : List A} → List·Permᴰ a b → length a ≡ length b
 length-perm List·Permᴰ·nil = refl
 length-perm (List·Permᴰ·cons e d) = ap suc (length-perm d)

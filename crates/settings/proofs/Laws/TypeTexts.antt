@@ -8,12 +8,12 @@ use lib.Dec.{eqb}
 use lib.ListN.{length, take, drop, length-drop}
 use lib.Seq.{take-all}
 use borrow.Author.Tests.{lt-leb}
-use Rattle.settings.specs.Lists.{withFirst, splitOn, spanTo, listOf}
+use Rattle.lists.specs.Lists.{withFirst, splitOn, spanTo, listOf}
 use Rattle.settings.specs.TypeTexts.{listsOf, joined}
 use Rattle.settings.specs.declared.types.Limits.{Limits}
 use Rattle.settings.specs.declared.types.TypeRead.{TypeRead}
-use Rattle.settings.specs.declared.lists.Settings.{Settings}
-use Rattle.settings.proofs.Laws.Pieces.{span-le, split-one, split-more}
+use Rattle.lists.specs.declared.lists.Settings.{Settings}
+use Rattle.lists.proofs.Laws.Pieces.{span-le, split-one, split-more}
 
 -- A text without a bar is one list.
 pub one-list : (l : List ℕ) (bar : ℕ) → bar ≡ 0 + spanTo 124 l → length l ≤ bar → listsOf l ≡ listOf l ∷ []
@@ -25,11 +25,13 @@ three : (limits : Limits) (a b c : Settings) (r : List Settings) → joined limi
 unfolding joined
 three limits a b c r = rw (lt-leb (suc (suc (suc (length r)))) 2 (omega arith))
 
-split-some : (limits : Limits) (a b : Settings) (l : List ℕ) → joined limits (a ∷ b ∷ map listOf (splitOn 124 l)) ≡ TypeRead.Unreadable
+split-some : (limits : Limits) (a b : Settings) (l : List ℕ) →
+    joined limits (a ∷ b ∷ map listOf (splitOn 124 l)) ≡ TypeRead.Unreadable
 unfolding splitOn
 split-some limits a b [] = three limits a b _ _
 split-some limits a b (x ∷ l) = go (eqb x 124) (splitOn 124 l) where
-  go : (t : Bool) (ps : List (List ℕ)) → joined limits (a ∷ b ∷ map listOf (cond t ([] ∷ ps) (withFirst x ps))) ≡ TypeRead.Unreadable
+  go : (t : Bool) (ps : List (List ℕ)) →
+      joined limits (a ∷ b ∷ map listOf (cond t ([] ∷ ps) (withFirst x ps))) ≡ TypeRead.Unreadable
   go true ps = three limits a b _ _
   go false [] = three limits a b _ _
   go false (p ∷ ps) = three limits a b _ _

@@ -8,10 +8,10 @@ use lib.Dec.{eqb, ltb, leb}
 use lib.ListN.{length, getD, set, take, length-set}
 use lib.Seq.{getD-set-same, getD-set-other}
 use borrow.Author.Tests.{leb-true, le-leb, eqb-true, eqb-false, ne-eqb, not-true}
-use Rattle.settings.specs.Octets.{bytes, eqList}
-use Rattle.settings.specs.Types.{listed, DATE, TIME-OF-DAY, DATE-TIME, dated, timed, placed, restricted, limitedTo, someYear, wellParts, ownSettings, wellFormed}
-use Rattle.settings.specs.Words.{placeIn, yearWords, clockWords, fractionWords, withDigits, fractionNumber, orElse, pair, pairOf}
-use Rattle.settings.specs.Lists.{splitOn, settings, noneYet, refused, addPair, addPairs, basicIn, dateIn, yearIn, timeIn, zoneIn, datedList, timedList, presentIf, complete, completed, listOf}
+use Rattle.lists.specs.Octets.{bytes, eqList}
+use Rattle.settings.specs.Types.{DATE, TIME-OF-DAY, DATE-TIME, dated, timed, placed, restricted, limitedTo, someYear, wellParts, ownSettings, wellFormed}
+use Rattle.lists.specs.Words.{placeIn, yearWords, clockWords, fractionWords, withDigits, fractionNumber, orElse, pairOf}
+use Rattle.lists.specs.Lists.{splitOn, settings, noneYet, refused, addPair, addPairs, basicIn, dateIn, yearIn, timeIn, zoneIn, datedList, timedList, presentIf, complete, completed, listOf}
 use Rattle.settings.specs.TypeTexts.{listsOf, allOf, usable, distinct, oneRow, member, yearsOf, timeAt, listType, joined, typeOf}
 use Rattle.settings.specs.declared.types.Years.{Years}
 use Rattle.settings.specs.declared.types.Parts.{Parts}
@@ -19,10 +19,10 @@ use Rattle.settings.specs.declared.types.Name.{Name}
 use Rattle.settings.specs.declared.types.«Type».{«Type»}
 use Rattle.settings.specs.declared.types.Limits.{Limits}
 use Rattle.settings.specs.declared.types.TypeRead.{TypeRead}
-use Rattle.settings.specs.declared.words.Pair.{Pair}
-use Rattle.settings.specs.declared.lists.Settings.{Settings}
-use Rattle.settings.proofs.Laws.Words.{cond-le, place-in}
-use Rattle.settings.proofs.Laws.Lists.{every-pair, five-properties}
+use Rattle.lists.specs.declared.words.Pair.{Pair}
+use Rattle.lists.specs.declared.lists.Settings.{Settings}
+use Rattle.lists.proofs.Laws.Words.{cond-le, place-in}
+use Rattle.lists.proofs.Laws.Lists.{every-pair, five-properties}
 
 -- ---- The numbers of a list's Year and Time.
 
@@ -116,16 +116,19 @@ unfolding yearsOf member
 some-year zero ys h k = absurd (omega arith)
 some-year (suc zero) ys h k = refl
 some-year (suc (suc zero)) ys h k = go (member 1 ys) where
-  go : (a : Bool) → someYear (cond (a || true) (Years.Plain (record { basic = a; proleptic = true })) (Years.Signed (record { negative = member 3 ys; five = member 4 ys }))) ≡ true
+  go : (a : Bool) →
+      someYear (cond (a || true) (Years.Plain (record { basic = a; proleptic = true })) (Years.Signed (record { negative = member 3 ys; five = member 4 ys }))) ≡ true
   go true = refl
   go false = refl
 some-year (suc (suc (suc zero))) ys h k = go (member 1 ys) (member 2 ys) where
-  go : (a b : Bool) → someYear (cond (a || b) (Years.Plain (record { basic = a; proleptic = b })) (Years.Signed (record { negative = true; five = member 4 ys }))) ≡ true
+  go : (a b : Bool) →
+      someYear (cond (a || b) (Years.Plain (record { basic = a; proleptic = b })) (Years.Signed (record { negative = true; five = member 4 ys }))) ≡ true
   go true b = refl
   go false true = refl
   go false false = refl
 some-year (suc (suc (suc (suc zero)))) ys h k = go (member 1 ys) (member 2 ys) where
-  go : (a b : Bool) → someYear (cond (a || b) (Years.Plain (record { basic = a; proleptic = b })) (Years.Signed (record { negative = member 3 ys; five = true }))) ≡ true
+  go : (a b : Bool) →
+      someYear (cond (a || b) (Years.Plain (record { basic = a; proleptic = b })) (Years.Signed (record { negative = member 3 ys; five = true }))) ≡ true
   go true b = refl
   go false true = refl
   go false false = or-true (member 3 ys)
@@ -229,5 +232,6 @@ good limits l =
     (good-cond (eqList l (bytes "TIME-OF-DAY")) _ _ (λ e. good-limited limits TIME-OF-DAY refl)
     (good-cond (eqList l (bytes "DATE-TIME")) _ _ (λ e. good-limited limits DATE-TIME refl) (good-lists limits l)))
 
+-- Every type that is read is well-formed.
 pub read-well-formed : (limits : Limits) (l : List ℕ) (t : «Type») → typeOf limits l ≡ TypeRead.«Type» t → wellFormed t ≡ true
 read-well-formed limits l t e = subst Good e (good limits l)

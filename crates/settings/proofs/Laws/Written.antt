@@ -4,16 +4,16 @@ use mathlib.Core.List.{List, [], _∷_, _++_, map, List·Permᴰ}
 use mathlib.Core.Bool.{Bool, true, false, _&&_, _||_, not, cond, and-eq-true-iff, false≢true}
 use Prim.Native.Nat.{ℕ, _+_, _-_, _*_, _/_, _%_, _<_, _≤_}
 use native.Mathlib.Omega.{arith}
-use lib.Dec.{eqb, ltb, leb}
+use lib.Dec.{eqb}
 use lib.ListN.{length}
-use borrow.Author.Tests.{lt-ltb, ne-eqb, eq-eqb, eqb-true, eqb-false, le-leb, leb-true, not-true}
-use Rattle.settings.specs.Octets.{bytes, eqList}
+use borrow.Author.Tests.{lt-ltb, ne-eqb, eq-eqb, eqb-true, eqb-false, le-leb, not-true}
+use Rattle.lists.specs.Octets.{bytes, eqList}
 use Rattle.settings.specs.Settings.{dateNumber, dateAt, clockNumber, clockAt, zoneNumber, zoneAt}
-use Rattle.settings.specs.Types.{unlimitedDate, unlimitedTime, listed, dated, timed, placed, restricted, limitedTo, someYear, wellParts}
-use Rattle.settings.specs.Words.{placeFrom, fractionNumber, pair, pairOf}
-use Rattle.settings.specs.Lists.{splitOn, settings, noneYet, addPair, addPairs, datedList, timedList, complete, completed, listOf}
+use Rattle.settings.specs.Types.{unlimitedDate, unlimitedTime, listed, dated, timed, placed, limitedTo, someYear}
+use Rattle.lists.specs.Words.{placeFrom, fractionNumber, pair, pairOf}
+use Rattle.lists.specs.Lists.{settings, noneYet, addPair, addPairs, datedList, timedList, complete, completed, listOf}
 use Rattle.settings.specs.TypeTexts.{listsOf, sameButYear, yearFamily, oneRow, equalLists, allOf, distinct, usable, member, yearsOf, timeAt, listType, joined, typeOf}
-use Rattle.settings.specs.Written.{dateWord, YearSetting, basic, proleptic, negative, five, yearWord, clockWord, timeWord, zoneWord, dateWords, timeWords, dateTimeWords, namedYears, listsFor, joinWith, typeText, Arranged, end, more}
+use Rattle.settings.specs.Written.{dateWord, YearSetting, basic, proleptic, negative, five, yearWord, clockWord, timeWord, zoneWord, dateWords, timeWords, dateTimeWords, namedYears, joinWith, typeText, Arranged, end, more}
 use Rattle.texts.specs.declared.forms.DateForm.{DateForm}
 use Rattle.texts.specs.declared.forms.ClockForm.{ClockForm}
 use Rattle.texts.specs.declared.forms.ZoneForm.{ZoneForm}
@@ -22,13 +22,12 @@ use Rattle.settings.specs.declared.types.Years.{Years}
 use Rattle.settings.specs.declared.types.DateType.{DateType}
 use Rattle.settings.specs.declared.types.TimeType.{TimeType}
 use Rattle.settings.specs.declared.types.Parts.{Parts}
-use Rattle.settings.specs.declared.types.«Type».{«Type»}
 use Rattle.settings.specs.declared.types.Limits.{Limits}
 use Rattle.settings.specs.declared.types.TypeRead.{TypeRead}
-use Rattle.settings.specs.declared.lists.Settings.{Settings}
-use Rattle.settings.proofs.Laws.Octets.{equal}
+use Rattle.lists.specs.declared.lists.Settings.{Settings}
+use Rattle.lists.proofs.Laws.Octets.{equal}
 use Rattle.settings.proofs.Laws.Joining.{lacks, split-join, lacks-join, has-join, all-perm, all-weaken, length-perm}
-use Rattle.settings.proofs.Laws.Order.{pairs-perm}
+use Rattle.lists.proofs.Laws.Order.{pairs-perm}
 
 -- ---- The words give the numbers of the settings, and the numbers give the settings back.
 
@@ -50,6 +49,7 @@ date-setting DateForm.YD = record { word = refl; some = omega arith; back = refl
 date-setting DateForm.YW = record { word = refl; some = omega arith; back = refl }
 date-setting DateForm.YWD = record { word = refl; some = omega arith; back = refl }
 
+-- The number of a Year setting.
 abbrev pub yearNumber : YearSetting → ℕ
 yearNumber basic = 1
 yearNumber proleptic = 2
@@ -78,7 +78,8 @@ zone-setting ZoneForm.L = record { word = refl; some = omega arith; back = refl 
 zone-setting ZoneForm.Z = record { word = refl; some = omega arith; back = refl }
 zone-setting ZoneForm.LD = record { word = refl; some = omega arith; back = refl }
 
-fraction-pair : (c : ClockForm) (n : ℕ) → 1 ≤ n → n ≤ 9 → pairOf (clockWord c ++ bytes "F" ++ (48 + n) ∷ []) ≡ pair 3 ((48 + n - 48) * 10 + clockNumber c)
+fraction-pair : (c : ClockForm) (n : ℕ) → 1 ≤ n → n ≤ 9 →
+    pairOf (clockWord c ++ bytes "F" ++ (48 + n) ∷ []) ≡ pair 3 ((48 + n - 48) * 10 + clockNumber c)
 unfolding pairOf placeFrom eqList fractionNumber
 fraction-pair ClockForm.H n h k =
     rw (le-leb 49 (48 + n) (omega arith), le-leb (48 + n) 57 (omega arith), ne-eqb ((48 + n - 48) * 10 + 1) 0 (λ z. omega arith))
@@ -105,7 +106,8 @@ timeCode c n = n * 10 + clockNumber c
 
 time-word : (c : ClockForm) (n : ℕ) → n ≤ 9 → pairOf (timeWord c n) ≡ pair 3 (timeCode c n)
 time-word c n k = go (eqb n 0) refl where
-  go : (t : Bool) → eqb n 0 ≡ t → pairOf (cond t (clockWord c) (clockWord c ++ bytes "F" ++ (48 + n) ∷ [])) ≡ pair 3 (timeCode c n)
+  go : (t : Bool) → eqb n 0 ≡ t →
+      pairOf (cond t (clockWord c) (clockWord c ++ bytes "F" ++ (48 + n) ∷ [])) ≡ pair 3 (timeCode c n)
   go true e =
       let h : n ≡ 0 = eqb-true n 0 e in
       let z : clockNumber c ≡ timeCode c n = omega arith in
@@ -126,18 +128,22 @@ time-back t =
 
 -- ---- One list: its pairs give its settings.
 
+-- The settings of a list with a date, ..
 abbrev pub dateList : DateForm → YearSetting → Settings
 dateList f y = settings (1 ∷ dateNumber f ∷ yearNumber y ∷ 0 ∷ 0 ∷ [])
 
+-- .. with a time, ..
 abbrev pub timeList : TimeForm → Settings
 timeList t = settings (2 ∷ 0 ∷ 0 ∷ timeCode (t .clock) (t .digits) ∷ zoneNumber (t .zone) ∷ [])
 
+-- .. and with both.
 abbrev pub dateTimeList : DateForm → TimeForm → YearSetting → Settings
 dateTimeList f t y = settings (3 ∷ dateNumber f ∷ yearNumber y ∷ timeCode (t .clock) (t .digits) ∷ zoneNumber (t .zone) ∷ [])
 
 not-zero : (n : ℕ) → 0 < n → eqb n 0 ≡ false
 not-zero n h = ne-eqb n 0 (λ z. omega arith)
 
+-- The pairs of a list give these settings: of a date, ..
 pub date-list : (f : DateForm) (y : YearSetting) → completed (addPairs (settings noneYet) (dateWords f y)) ≡ dateList f y
 unfolding completed complete datedList timedList addPairs addPair
 date-list f y =
@@ -145,6 +151,7 @@ date-list f y =
     let v = year-setting y in
     rw (basic-pairs .0, d .word, v .word, lt-ltb 0 _ (d .some), lt-ltb 0 _ (v .some), not-zero _ (d .some), not-zero _ (v .some))
 
+-- .. of a time, ..
 pub time-list : (t : TimeForm) → t .digits ≤ 9 → completed (addPairs (settings noneYet) (timeWords t)) ≡ timeList t
 unfolding completed complete datedList timedList addPairs addPair
 time-list t k =
@@ -152,7 +159,9 @@ time-list t k =
     let z = zone-setting (t .zone) in
     rw (basic-pairs .1, time-word (t .clock) (t .digits) k, z .word, lt-ltb 0 _ s, lt-ltb 0 _ (z .some), not-zero _ s, not-zero _ (z .some))
 
-pub date-time-list : (f : DateForm) (t : TimeForm) → t .digits ≤ 9 → (y : YearSetting) → completed (addPairs (settings noneYet) (dateTimeWords f t y)) ≡ dateTimeList f t y
+-- .. and of both.
+pub date-time-list : (f : DateForm) (t : TimeForm) → t .digits ≤ 9 → (y : YearSetting) →
+    completed (addPairs (settings noneYet) (dateTimeWords f t y)) ≡ dateTimeList f t y
 unfolding completed complete datedList timedList addPairs addPair
 date-time-list f t k y =
     let d = date-setting f in
@@ -181,10 +190,12 @@ date-time-list f t k y =
 unfoldable pub isWord : List ℕ → Bool
 isWord w = lacks 32 w && (lacks 124 w && not (lacks 61 w))
 
+-- Every pair is such a word: of Basic, ..
 pub basic-words : (isWord (bytes "Basic=Date") ≡ true) × (isWord (bytes "Basic=Time") ≡ true) × (isWord (bytes "Basic=Date-Time") ≡ true)
 unfolding isWord lacks
 basic-words = (refl, refl, refl)
 
+-- .. of Date, ..
 pub date-is-word : (f : DateForm) → isWord (dateWord f) ≡ true
 unfolding isWord lacks
 date-is-word DateForm.Y = refl
@@ -194,6 +205,7 @@ date-is-word DateForm.YD = refl
 date-is-word DateForm.YW = refl
 date-is-word DateForm.YWD = refl
 
+-- .. of Year, ..
 pub year-is-word : (y : YearSetting) → isWord (yearWord y) ≡ true
 unfolding isWord lacks
 year-is-word basic = refl
@@ -201,12 +213,14 @@ year-is-word proleptic = refl
 year-is-word negative = refl
 year-is-word five = refl
 
+-- .. of Local-or-UTC, ..
 pub zone-is-word : (z : ZoneForm) → isWord (zoneWord z) ≡ true
 unfolding isWord lacks
 zone-is-word ZoneForm.L = refl
 zone-is-word ZoneForm.Z = refl
 zone-is-word ZoneForm.LD = refl
 
+-- .. and of Time.
 pub time-is-word : (c : ClockForm) (n : ℕ) → n ≤ 9 → isWord (timeWord c n) ≡ true
 unfolding isWord lacks
 time-is-word c n k = go c (eqb n 0) where
@@ -218,6 +232,7 @@ time-is-word c n k = go c (eqb n 0) where
   go ClockForm.HM false = rw (ne-eqb (48 + n) 32 (λ z. omega arith), ne-eqb (48 + n) 124 (λ z. omega arith))
   go ClockForm.HMS false = rw (ne-eqb (48 + n) 32 (λ z. omega arith), ne-eqb (48 + n) 124 (λ z. omega arith))
 
+-- The text of a list: it is read as the list, has no bar, and has an equals sign.
 pub record ListText (ws : List (List ℕ)) (s : Settings) : Type 0 where
   pub reads : listOf (joinWith 32 ws) ≡ s
   pub bar : lacks 124 (joinWith 32 ws) ≡ true
@@ -231,6 +246,7 @@ module _ (vs : List (List ℕ)) (s : Settings) (some : 0 < length vs) (words : a
       let q : (lacks 124 w ≡ true) × (not (lacks 61 w) ≡ true) = and-eq-true-iff _ _ .0 (p .1) in
       (p .0, q .0, not-true _ (q .1))
 
+  -- Pairs in any order are the text of their list.
   pub list-text : (ws : List (List ℕ)) → List·Permᴰ ws vs → ListText ws s
   unfolding listOf allOf
   list-text [] d = absurd (omega (arith, length-perm d))
@@ -247,10 +263,11 @@ module _ (vs : List (List ℕ)) (s : Settings) (some : 0 < length vs) (words : a
 
 -- ---- A type's text is no name, and each of its lists is read.
 
-not-it : (a b : List ℕ) → lacks 61 a ≡ false → lacks 61 b ≡ true → eqList a b ≡ false
-not-it a b h k = go (eqList a b) refl where
+-- A text that has an octet is none that lacks it.
+pub not-it : (c : ℕ) (a b : List ℕ) → lacks c a ≡ false → lacks c b ≡ true → eqList a b ≡ false
+not-it c a b h k = go (eqList a b) refl where
   go : (t : Bool) → eqList a b ≡ t → t ≡ false
-  go true e = absurd (false≢true (sym h ∙ ap (lacks 61) (equal a b e) ∙ k))
+  go true e = absurd (false≢true (sym h ∙ ap (lacks c) (equal a b e) ∙ k))
   go false e = refl
 
 names-lack : (lacks 61 (bytes "DATE") ≡ true) × (lacks 61 (bytes "TIME-OF-DAY") ≡ true) × (lacks 61 (bytes "DATE-TIME") ≡ true)
@@ -258,24 +275,28 @@ unfolding lacks
 names-lack = (refl, refl, refl)
 
 module _ (f : YearSetting → List (List ℕ)) (g : YearSetting → Settings) (k : (y : YearSetting) (ws : List (List ℕ)) → List·Permᴰ ws (f y) → ListText ws (g y)) where
-  lists-read : (ys : List YearSetting) {wss : List (List (List ℕ))} → Arranged wss (map f ys) → map listOf (map (joinWith 32) wss) ≡ map g ys
+  lists-read : (ys : List YearSetting) {wss : List (List (List ℕ))} → Arranged wss (map f ys) →
+      map listOf (map (joinWith 32) wss) ≡ map g ys
   lists-read [] end = refl
   lists-read (y ∷ ys) (more d r) = rw (k y _ d .reads, lists-read ys r)
 
-  no-bars : (ys : List YearSetting) {wss : List (List (List ℕ))} → Arranged wss (map f ys) → allOf (lacks 124) (map (joinWith 32) wss) ≡ true
+  no-bars : (ys : List YearSetting) {wss : List (List (List ℕ))} → Arranged wss (map f ys) →
+      allOf (lacks 124) (map (joinWith 32) wss) ≡ true
   unfolding allOf
   no-bars [] end = refl
   no-bars (y ∷ ys) (more d r) = rw (k y _ d .bar, no-bars ys r)
 
-  pub text-read : (limits : Limits) (y : YearSetting) (ys : List YearSetting) {wss : List (List (List ℕ))} → Arranged wss (map f (y ∷ ys)) →
+  -- The lists of a text are read and joined.
+  pub text-read : (limits : Limits) (y : YearSetting) (ys : List YearSetting) {wss : List (List (List ℕ))} →
+      Arranged wss (map f (y ∷ ys)) →
       typeOf limits (typeText wss) ≡ joined limits (map g (y ∷ ys))
   unfolding typeOf typeText listsOf
   text-read limits y ys (more {ws} {vs} {wss} d r) =
       let e : lacks 61 (joinWith 124 (joinWith 32 ws ∷ map (joinWith 32) wss)) ≡ false = has-join 61 124 (joinWith 32 ws) (map (joinWith 32) wss) (k y ws d .equals) in
       rw (
-        not-it _ _ e (names-lack .0),
-        not-it _ _ e (names-lack .1),
-        not-it _ _ e (names-lack .2),
+        not-it 61 _ _ e (names-lack .0),
+        not-it 61 _ _ e (names-lack .1),
+        not-it 61 _ _ e (names-lack .2),
         split-join 124 (joinWith 32 ws) (map (joinWith 32) wss) refl (no-bars (y ∷ ys) (more d r)),
         k y ws d .reads,
         lists-read ys r,
@@ -330,6 +351,7 @@ years-back (Years.Signed y) h = go (y .negative) (y .five) h where
   go false true h = refl
   go false false h = absurd (false≢true h)
 
+-- A type with a date names a Year.
 pub some-named : (ys : Years) → someYear ys ≡ true → 0 < length (namedYears ys)
 some-named (Years.Plain y) h = go (y .basic) (y .proleptic) h where
   go : (a b : Bool) → (a || b) ≡ true → 0 < length (namedYears (plain a b))
@@ -376,26 +398,30 @@ twice true r = refl
 twice false r = refl
 
 -- Limits take the place of those that a type had, and may be tested twice.
-limited-again : (limits : Limits) (p : Parts) → whereSo (placed limits (dated p) (timed p)) (limitedTo limits (listed (unlimited p))) ≡ limitedTo limits (listed p)
+limited-again : (limits : Limits) (p : Parts) →
+    whereSo (placed limits (dated p) (timed p)) (limitedTo limits (listed (unlimited p))) ≡ limitedTo limits (listed p)
 unfolding limitedTo
 limited-again limits (Parts.Date d) = twice (placed limits true false) _
 limited-again limits (Parts.Time t) = twice (placed limits false true) _
 limited-again limits (Parts.DateTime d t) = twice (placed limits true true) _
 
--- The lists of a type make the type.
 module _ (limits : Limits) where
-  pub date-joined : (d : DateType) → someYear (d .years) ≡ true → joined limits (map (dateList (d .form)) (namedYears (d .years))) ≡ limitedTo limits (listed (Parts.Date d))
+  -- The lists of a date make its type, ..
+  pub date-joined : (d : DateType) → someYear (d .years) ≡ true →
+      joined limits (map (dateList (d .form)) (namedYears (d .years))) ≡ limitedTo limits (listed (Parts.Date d))
   unfolding listType
   date-joined d h =
       years-joined limits 1 (dateNumber (d .form)) 0 0 _ refl (d .years) h
       ∙ rw (date-setting (d .form) .back, years-back (d .years) h) (limited-again limits (Parts.Date d))
 
+  -- .. those of a time, ..
   pub time-joined : (t : TimeType) → joined limits (timeList (t .form) ∷ []) ≡ limitedTo limits (listed (Parts.Time t))
   unfolding listType
   time-joined t =
       one-joined limits 2 0 (timeCode (t .form .clock) (t .form .digits)) (zoneNumber (t .form .zone)) 0 _ refl
       ∙ rw (time-back (t .form)) (limited-again limits (Parts.Time t))
 
+  -- .. and those of both.
   pub date-time-joined : (d : DateType) (t : TimeType) → someYear (d .years) ≡ true →
       joined limits (map (dateTimeList (d .form) (t .form)) (namedYears (d .years))) ≡ limitedTo limits (listed (Parts.DateTime d t))
   unfolding listType

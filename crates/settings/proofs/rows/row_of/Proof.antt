@@ -39,10 +39,22 @@ returns : tie.Need-returns
 returns c = simp (c .before .before .before .parts .given .1, c .before .date-number .ensures, c .family .ensures)
 
 returns-2 : tie.Need-returns-2
-returns-2 c = simp (c .before .before .before .before .parts2 .given .1, c .before .time-number .ensures, c .zone-number .ensures)
+returns-2 c =
+    simp (
+      c .before .before .before .before .parts2 .given .1,
+      c .before .time-number .ensures,
+      c .zone-number .ensures,
+    )
 
 returns-3 : tie.Need-returns-3
-returns-3 c = simp (c .before .before .before .before .before .before .parts3 .given .1, c .before .before .before .date-number2 .ensures, c .before .before .family2 .ensures, c .before .time-number2 .ensures, c .zone-number2 .ensures)
+returns-3 c =
+    simp (
+      c .before .before .before .before .before .before .parts3 .given .1,
+      c .before .before .before .date-number2 .ensures,
+      c .before .before .family2 .ensures,
+      c .before .time-number2 .ensures,
+      c .zone-number2 .ensures,
+    )
 
 pub row-of-spec : {M : Type 1} → statement M
 row-of-spec =

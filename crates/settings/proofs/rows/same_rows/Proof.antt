@@ -1,5 +1,5 @@
-use Rattle.settings.specs.Rows.{sameRows}
 use borrow.Author.Needs.{needs}
+use Rattle.settings.specs.Rows.{sameRows}
 use Rattle.settings.proofs.rows.same_rows.Statement.{statement}
 use Rattle.settings.proofs.rows.same_rows.Tie as tie
 

@@ -1,6 +1,6 @@
+use borrow.Author.Needs.{needs}
 use borrow.Author.Tests.{eq-eqb, ne-eqb}
 use Rattle.settings.specs.Rows.{timeNumber}
-use borrow.Author.Needs.{needs}
 use Rattle.settings.proofs.rows.time_number.Statement.{statement}
 use Rattle.settings.proofs.rows.time_number.Tie as tie
 

@@ -1,5 +1,5 @@
-use Rattle.settings.specs.Settings.{clockAt}
 use borrow.Author.Tests.{ne-eqb}
+use Rattle.settings.specs.Settings.{clockAt}
 use Rattle.settings.proofs.settings.clock_at.Statement.{statement}
 use Rattle.settings.proofs.settings.clock_at.Tie as tie
 

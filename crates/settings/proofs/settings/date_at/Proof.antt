@@ -1,5 +1,5 @@
-use Rattle.settings.specs.Settings.{dateAt}
 use borrow.Author.Tests.{ne-eqb}
+use Rattle.settings.specs.Settings.{dateAt}
 use Rattle.settings.proofs.settings.date_at.Statement.{statement}
 use Rattle.settings.proofs.settings.date_at.Tie as tie
 
@@ -25,7 +25,14 @@ returns-5 c = rw (c .match .keys5)
 
 returns-6 : tie.Need-returns-6
 unfolding dateAt
-returns-6 c = rw (ne-eqb _ _ (c .match .rest .0 .0 .0 .0 .1), ne-eqb _ _ (c .match .rest .0 .0 .0 .1), ne-eqb _ _ (c .match .rest .0 .0 .1), ne-eqb _ _ (c .match .rest .0 .1), ne-eqb _ _ (c .match .rest .1))
+returns-6 c =
+    rw (
+      ne-eqb _ _ (c .match .rest .0 .0 .0 .0 .1),
+      ne-eqb _ _ (c .match .rest .0 .0 .0 .1),
+      ne-eqb _ _ (c .match .rest .0 .0 .1),
+      ne-eqb _ _ (c .match .rest .0 .1),
+      ne-eqb _ _ (c .match .rest .1),
+    )
 
 pub date-at-spec : {M : Type 1} → statement M
 date-at-spec = tie.close (tie.spec returns returns-2 returns-3 returns-4 returns-5 returns-6)

@@ -1,5 +1,5 @@
-use Rattle.settings.specs.Settings.{zoneAt}
 use borrow.Author.Tests.{ne-eqb}
+use Rattle.settings.specs.Settings.{zoneAt}
 use Rattle.settings.proofs.settings.zone_at.Statement.{statement}
 use Rattle.settings.proofs.settings.zone_at.Tie as tie
 

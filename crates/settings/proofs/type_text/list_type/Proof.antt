@@ -1,6 +1,6 @@
+use borrow.Author.Needs.{needs}
 use borrow.Author.Tests.{eq-eqb, ne-eqb}
 use Rattle.settings.specs.TypeTexts.{listType}
-use borrow.Author.Needs.{needs}
 use Rattle.settings.proofs.type_text.list_type.Statement.{statement}
 use Rattle.settings.proofs.type_text.list_type.Tie as tie
 
@@ -33,21 +33,41 @@ date-requires c κs = search needs
 
 returns : tie.Need-returns
 unfolding listType
-returns c = rw (eq-eqb _ _ (c .before .if1 .taken), ← c .before .before .before .before .before .before .before .date-at .ensures, ← c .before .before .before .before .before .years-of .ensures) (c .date .ensures)
+returns c =
+    rw (
+      eq-eqb _ _ (c .before .if1 .taken),
+      ← c .before .before .before .before .before .before .before .date-at .ensures,
+      ← c .before .before .before .before .before .years-of .ensures,
+    )
+    (c .date .ensures)
 
 time-requires : tie.Need-time-requires
 time-requires c κs = search needs
 
 returns-2 : tie.Need-returns-2
 unfolding listType
-returns-2 c = rw (ne-eqb _ _ (c .before .before .if1 .left), eq-eqb _ _ (c .before .if2 .taken), ← c .before .before .before .time-at .ensures) (c .time .ensures)
+returns-2 c =
+    rw (
+      ne-eqb _ _ (c .before .before .if1 .left),
+      eq-eqb _ _ (c .before .if2 .taken),
+      ← c .before .before .before .time-at .ensures,
+    )
+    (c .time .ensures)
 
 date-time-requires : tie.Need-date-time-requires
 date-time-requires c κs = search needs
 
 returns-3 : tie.Need-returns-3
 unfolding listType
-returns-3 c = rw (ne-eqb _ _ (c .before .before .if1 .left), ne-eqb _ _ (c .before .if2 .left), ← c .before .before .before .before .before .before .before .before .date-at .ensures, ← c .before .before .before .before .before .before .years-of .ensures, ← c .before .before .before .time-at .ensures) (c .date-time .ensures)
+returns-3 c =
+    rw (
+      ne-eqb _ _ (c .before .before .if1 .left),
+      ne-eqb _ _ (c .before .if2 .left),
+      ← c .before .before .before .before .before .before .before .before .date-at .ensures,
+      ← c .before .before .before .before .before .before .years-of .ensures,
+      ← c .before .before .before .time-at .ensures,
+    )
+    (c .date-time .ensures)
 
 pub list-type-spec : {M : Type 1} → statement M
 list-type-spec =

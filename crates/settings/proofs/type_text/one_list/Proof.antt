@@ -1,8 +1,7 @@
 use mathlib.Core.Path.{sym, _∙_}
-use mathlib.Core.Bool.{and-true}
+use borrow.Author.Needs.{needs}
 use borrow.Author.Tests.{not-true, not-false}
 use Rattle.settings.specs.TypeTexts.{allOf, distinct, joined, listType, member, yearsOf}
-use borrow.Author.Needs.{needs}
 use Rattle.settings.proofs.type_text.one_list.Statement.{statement}
 use Rattle.settings.proofs.type_text.one_list.Tie as tie
 
@@ -13,16 +12,12 @@ returns : tie.Need-returns
 unfolding joined allOf
 returns c = rw (sym (c .before .is-usable .ensures) ∙ not-true _ (c .if1 .taken))
 
-list-type-requires : tie.Need-list-type-requires
-list-type-requires c κs = search needs
-
-limited-requires : tie.Need-limited-requires
-limited-requires c κs = search needs
+limited-list-requires : tie.Need-limited-list-requires
+limited-list-requires c κs = search needs
 
 returns-2 : tie.Need-returns-2
 unfolding joined allOf distinct listType yearsOf member
-returns-2 c = rw (sym (c .before .before .before .is-usable .ensures) ∙ not-false _ (c .before .before .if1 .left)) (simp (c .before .list-type .ensures) at (c .limited .ensures))
+returns-2 c = rw (sym (c .before .before .is-usable .ensures) ∙ not-false _ (c .before .if1 .left)) (c .limited-list .ensures)
 
 pub one-list-spec : {M : Type 1} → statement M
-one-list-spec =
-    tie.close (tie.spec is-usable-requires returns list-type-requires limited-requires returns-2)
+one-list-spec = tie.close (tie.spec is-usable-requires returns limited-list-requires returns-2)

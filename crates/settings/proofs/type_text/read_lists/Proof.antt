@@ -1,8 +1,8 @@
-use mathlib.Core.Path.{_≡_, sym, _∙_}
+use mathlib.Core.Path.{sym}
 use native.Mathlib.Omega.{arith}
 use lib.Seq.{length-take-le}
-use Rattle.settings.proofs.Laws.TypeTexts.{one-list, too-many, two-lists}
 use borrow.Author.Needs.{needs}
+use Rattle.settings.proofs.Laws.TypeTexts.{one-list, too-many, two-lists}
 use Rattle.settings.proofs.type_text.read_lists.Statement.{statement}
 use Rattle.settings.proofs.type_text.read_lists.Tie as tie
 
@@ -16,7 +16,12 @@ one-list-requires : tie.Need-one-list-requires
 one-list-requires c κs = search needs
 
 returns : tie.Need-returns
-returns c = rw (one-list _ _ (c .before .before .before .find .ensures) (c .before .before .if1 .taken), ← c .before .read-list .ensures) (c .one-list .ensures)
+returns c =
+    rw (
+      one-list _ _ (c .before .before .before .find .ensures) (c .before .before .if1 .taken),
+      ← c .before .read-list .ensures,
+    )
+    (c .one-list .ensures)
 
 add-next : tie.Need-add-next
 add-next c = search needs
@@ -49,7 +54,13 @@ two-lists-requires : tie.Need-two-lists-requires
 two-lists-requires c κs = search needs
 
 returns-3 : tie.Need-returns-3
-returns-3 c = rw (two-lists _ _ _ (c .before .before .before .before .before .before .before .before .find .ensures) (c .before .before .before .before .before .before .before .if1 .left) (c .before .before .before .before .before .before .find2 .ensures) (c .before .before .before .before .before .if2 .left), ← c .before .before .before .read-list2 .ensures, ← c .before .read-list3 .ensures) (c .two-lists .ensures)
+returns-3 c =
+    rw (
+      two-lists _ _ _ (c .before .before .before .before .before .before .before .before .find .ensures) (c .before .before .before .before .before .before .before .if1 .left) (c .before .before .before .before .before .before .find2 .ensures) (c .before .before .before .before .before .if2 .left),
+      ← c .before .before .before .read-list2 .ensures,
+      ← c .before .read-list3 .ensures,
+    )
+    (c .two-lists .ensures)
 
 pub read-lists-spec : {M : Type 1} → statement M
 read-lists-spec =

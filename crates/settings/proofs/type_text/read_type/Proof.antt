@@ -1,6 +1,6 @@
 use mathlib.Core.Path.{sym, _∙_}
-use Rattle.settings.specs.TypeTexts.{typeOf}
 use borrow.Author.Needs.{needs}
+use Rattle.settings.specs.TypeTexts.{typeOf}
 use Rattle.settings.proofs.type_text.read_type.Statement.{statement}
 use Rattle.settings.proofs.type_text.read_type.Tie as tie
 
@@ -28,7 +28,12 @@ limited-requires-2 c κs = search needs
 
 returns-2 : tie.Need-returns-2
 unfolding typeOf
-returns-2 c = rw (sym (c .before .before .before .before .before .same .ensures) ∙ c .before .before .before .before .if1 .left, sym (c .before .before .same2 .ensures) ∙ c .before .if2 .taken) (c .limited2 .ensures)
+returns-2 c =
+    rw (
+      sym (c .before .before .before .before .before .same .ensures) ∙ c .before .before .before .before .if1 .left,
+      sym (c .before .before .same2 .ensures) ∙ c .before .if2 .taken,
+    )
+    (c .limited2 .ensures)
 
 slice-aggregate-same-3 : tie.Need-slice-aggregate-same-3
 slice-aggregate-same-3 c = search needs
@@ -41,14 +46,26 @@ limited-requires-3 c κs = search needs
 
 returns-3 : tie.Need-returns-3
 unfolding typeOf
-returns-3 c = rw (sym (c .before .before .before .before .before .before .before .before .same .ensures) ∙ c .before .before .before .before .before .before .before .if1 .left, sym (c .before .before .before .before .before .same2 .ensures) ∙ c .before .before .before .before .if2 .left, sym (c .before .before .same3 .ensures) ∙ c .before .if3 .taken) (c .limited3 .ensures)
+returns-3 c =
+    rw (
+      sym (c .before .before .before .before .before .before .before .before .same .ensures) ∙ c .before .before .before .before .before .before .before .if1 .left,
+      sym (c .before .before .before .before .before .same2 .ensures) ∙ c .before .before .before .before .if2 .left,
+      sym (c .before .before .same3 .ensures) ∙ c .before .if3 .taken,
+    )
+    (c .limited3 .ensures)
 
 read-lists-requires : tie.Need-read-lists-requires
 read-lists-requires c κs = search needs
 
 returns-4 : tie.Need-returns-4
 unfolding typeOf
-returns-4 c = rw (sym (c .before .before .before .before .before .before .before .before .same .ensures) ∙ c .before .before .before .before .before .before .before .if1 .left, sym (c .before .before .before .before .before .same2 .ensures) ∙ c .before .before .before .before .if2 .left, sym (c .before .before .same3 .ensures) ∙ c .before .if3 .left) (c .read-lists .ensures)
+returns-4 c =
+    rw (
+      sym (c .before .before .before .before .before .before .before .before .same .ensures) ∙ c .before .before .before .before .before .before .before .if1 .left,
+      sym (c .before .before .before .before .before .same2 .ensures) ∙ c .before .before .before .before .if2 .left,
+      sym (c .before .before .same3 .ensures) ∙ c .before .if3 .left,
+    )
+    (c .read-lists .ensures)
 
 pub read-type-spec : {M : Type 1} → statement M
 read-type-spec =

@@ -1,6 +1,6 @@
+use borrow.Author.Needs.{needs}
 use borrow.Author.Tests.{eq-eqb, ne-eqb}
 use Rattle.settings.specs.TypeTexts.{sameButYear}
-use borrow.Author.Needs.{needs}
 use Rattle.settings.proofs.type_text.same_but_year.Statement.{statement}
 use Rattle.settings.proofs.type_text.same_but_year.Tie as tie
 
@@ -32,7 +32,12 @@ element-copy-out-if3-2 c = search needs
 
 returns-3 : tie.Need-returns-3
 unfolding sameButYear
-returns-3 c = rw (eq-eqb _ _ (c .before .before .before .before .before .before .if1 .left), eq-eqb _ _ (c .before .before .before .if2 .left), ne-eqb _ _ (c .if3 .taken))
+returns-3 c =
+    rw (
+      eq-eqb _ _ (c .before .before .before .before .before .before .if1 .left),
+      eq-eqb _ _ (c .before .before .before .if2 .left),
+      ne-eqb _ _ (c .if3 .taken),
+    )
 
 element-copy-out-result : tie.Need-element-copy-out-result
 element-copy-out-result c = search needs
@@ -42,7 +47,12 @@ element-copy-out-result-2 c = search needs
 
 returns-4 : tie.Need-returns-4
 unfolding sameButYear
-returns-4 c = rw (eq-eqb _ _ (c .before .before .before .before .before .before .before .before .if1 .left), eq-eqb _ _ (c .before .before .before .before .before .if2 .left), eq-eqb _ _ (c .before .before .if3 .left))
+returns-4 c =
+    rw (
+      eq-eqb _ _ (c .before .before .before .before .before .before .before .before .if1 .left),
+      eq-eqb _ _ (c .before .before .before .before .before .if2 .left),
+      eq-eqb _ _ (c .before .before .if3 .left),
+    )
 
 pub same-but-year-spec : {M : Type 1} → statement M
 same-but-year-spec =

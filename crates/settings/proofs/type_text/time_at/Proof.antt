@@ -1,5 +1,5 @@
-use Rattle.settings.specs.TypeTexts.{timeAt}
 use borrow.Author.Needs.{needs}
+use Rattle.settings.specs.TypeTexts.{timeAt}
 use Rattle.settings.proofs.type_text.time_at.Statement.{statement}
 use Rattle.settings.proofs.type_text.time_at.Tie as tie
 

@@ -1,7 +1,7 @@
 use mathlib.Core.Path.{sym, _∙_}
+use borrow.Author.Needs.{needs}
 use borrow.Author.Tests.{eq-eqb, ne-eqb, not-true, not-false}
 use Rattle.settings.specs.TypeTexts.{allOf, distinct, equalLists, joined, oneRow}
-use borrow.Author.Needs.{needs}
 use Rattle.settings.proofs.type_text.two_lists.Statement.{statement}
 use Rattle.settings.proofs.type_text.two_lists.Tie as tie
 
@@ -17,14 +17,23 @@ is-usable-requires-2 c κs = search needs
 
 returns-2 : tie.Need-returns-2
 unfolding joined allOf
-returns-2 c = rw (sym (c .before .before .before .is-usable .ensures) ∙ not-false _ (c .before .before .if1 .left), sym (c .before .is-usable2 .ensures) ∙ not-true _ (c .if2 .taken))
+returns-2 c =
+    rw (
+      sym (c .before .before .before .is-usable .ensures) ∙ not-false _ (c .before .before .if1 .left),
+      sym (c .before .is-usable2 .ensures) ∙ not-true _ (c .if2 .taken),
+    )
 
 same-but-year-requires : tie.Need-same-but-year-requires
 same-but-year-requires c κs = search needs
 
 returns-3 : tie.Need-returns-3
 unfolding joined allOf distinct equalLists oneRow
-returns-3 c = rw (sym (c .before .before .before .before .before .is-usable .ensures) ∙ not-false _ (c .before .before .before .before .if1 .left), sym (c .before .before .before .is-usable2 .ensures) ∙ not-false _ (c .before .before .if2 .left), sym (c .before .same-but-year .ensures) ∙ not-true _ (c .if3 .taken))
+returns-3 c =
+    rw (
+      sym (c .before .before .before .before .before .is-usable .ensures) ∙ not-false _ (c .before .before .before .before .if1 .left),
+      sym (c .before .before .before .is-usable2 .ensures) ∙ not-false _ (c .before .before .if2 .left),
+      sym (c .before .same-but-year .ensures) ∙ not-true _ (c .if3 .taken),
+    )
 
 element-copy-out-first : tie.Need-element-copy-out-first
 element-copy-out-first c = search needs
@@ -34,7 +43,13 @@ element-copy-out-second c = search needs
 
 returns-4 : tie.Need-returns-4
 unfolding joined allOf distinct equalLists oneRow
-returns-4 c = rw (sym (c .before .before .before .before .before .before .before .before .is-usable .ensures) ∙ not-false _ (c .before .before .before .before .before .before .before .if1 .left), sym (c .before .before .before .before .before .before .is-usable2 .ensures) ∙ not-false _ (c .before .before .before .before .before .if2 .left), sym (c .before .before .before .before .same-but-year .ensures) ∙ not-false _ (c .before .before .before .if3 .left), eq-eqb _ _ (c .if4 .taken))
+returns-4 c =
+    rw (
+      sym (c .before .before .before .before .before .before .before .before .is-usable .ensures) ∙ not-false _ (c .before .before .before .before .before .before .before .if1 .left),
+      sym (c .before .before .before .before .before .before .is-usable2 .ensures) ∙ not-false _ (c .before .before .before .before .before .if2 .left),
+      sym (c .before .before .before .before .same-but-year .ensures) ∙ not-false _ (c .before .before .before .if3 .left),
+      eq-eqb _ _ (c .if4 .taken),
+    )
 
 year-family-requires : tie.Need-year-family-requires
 year-family-requires c κs = search needs
@@ -44,17 +59,33 @@ year-family-requires-2 c κs = search needs
 
 returns-5 : tie.Need-returns-5
 unfolding joined allOf distinct equalLists oneRow
-returns-5 c = rw (sym (c .before .before .before .before .before .before .before .before .before .before .before .is-usable .ensures) ∙ not-false _ (c .before .before .before .before .before .before .before .before .before .before .if1 .left), sym (c .before .before .before .before .before .before .before .before .before .is-usable2 .ensures) ∙ not-false _ (c .before .before .before .before .before .before .before .before .if2 .left), sym (c .before .before .before .before .before .before .before .same-but-year .ensures) ∙ not-false _ (c .before .before .before .before .before .before .if3 .left), ne-eqb _ _ (c .before .before .before .if4 .left), ← c .before .before .year-family .ensures, ← c .before .year-family2 .ensures, ne-eqb _ _ (c .if5 .taken))
+returns-5 c =
+    rw (
+      sym (c .before .before .before .before .before .before .before .before .before .before .before .is-usable .ensures) ∙ not-false _ (c .before .before .before .before .before .before .before .before .before .before .if1 .left),
+      sym (c .before .before .before .before .before .before .before .before .before .is-usable2 .ensures) ∙ not-false _ (c .before .before .before .before .before .before .before .before .if2 .left),
+      sym (c .before .before .before .before .before .before .before .same-but-year .ensures) ∙ not-false _ (c .before .before .before .before .before .before .if3 .left),
+      ne-eqb _ _ (c .before .before .before .if4 .left),
+      ← c .before .before .year-family .ensures,
+      ← c .before .year-family2 .ensures,
+      ne-eqb _ _ (c .if5 .taken),
+    )
 
-list-type-requires : tie.Need-list-type-requires
-list-type-requires c κs = search needs
-
-limited-requires : tie.Need-limited-requires
-limited-requires c κs = search needs
+limited-list-requires : tie.Need-limited-list-requires
+limited-list-requires c κs = search needs
 
 returns-6 : tie.Need-returns-6
 unfolding joined allOf distinct equalLists oneRow
-returns-6 c = rw (sym (c .before .before .before .before .before .before .before .before .before .before .before .before .before .is-usable .ensures) ∙ not-false _ (c .before .before .before .before .before .before .before .before .before .before .before .before .if1 .left), sym (c .before .before .before .before .before .before .before .before .before .before .before .is-usable2 .ensures) ∙ not-false _ (c .before .before .before .before .before .before .before .before .before .before .if2 .left), sym (c .before .before .before .before .before .before .before .before .before .same-but-year .ensures) ∙ not-false _ (c .before .before .before .before .before .before .before .before .if3 .left), ne-eqb _ _ (c .before .before .before .before .before .if4 .left), ← c .before .before .before .before .year-family .ensures, ← c .before .before .before .year-family2 .ensures, eq-eqb _ _ (c .before .before .if5 .left)) (simp (c .before .list-type .ensures) at (c .limited .ensures))
+returns-6 c =
+    rw (
+      sym (c .before .before .before .before .before .before .before .before .before .before .before .before .is-usable .ensures) ∙ not-false _ (c .before .before .before .before .before .before .before .before .before .before .before .if1 .left),
+      sym (c .before .before .before .before .before .before .before .before .before .before .is-usable2 .ensures) ∙ not-false _ (c .before .before .before .before .before .before .before .before .before .if2 .left),
+      sym (c .before .before .before .before .before .before .before .before .same-but-year .ensures) ∙ not-false _ (c .before .before .before .before .before .before .before .if3 .left),
+      ne-eqb _ _ (c .before .before .before .before .if4 .left),
+      ← c .before .before .before .year-family .ensures,
+      ← c .before .before .year-family2 .ensures,
+      eq-eqb _ _ (c .before .if5 .left),
+    )
+    (c .limited-list .ensures)
 
 pub two-lists-spec : {M : Type 1} → statement M
 two-lists-spec =
@@ -72,6 +103,5 @@ two-lists-spec =
     year-family-requires
     year-family-requires-2
     returns-5
-    list-type-requires
-    limited-requires
+    limited-list-requires
     returns-6)

@@ -1,5 +1,5 @@
-use Rattle.settings.specs.TypeTexts.{yearsOf}
 use borrow.Author.Needs.{needs}
+use Rattle.settings.specs.TypeTexts.{yearsOf}
 use Rattle.settings.proofs.type_text.years_of.Statement.{statement}
 use Rattle.settings.proofs.type_text.years_of.Tie as tie
 
@@ -15,7 +15,13 @@ returns c = rw (← c .before .before .named .ensures, ← c .before .named2 .en
 
 returns-2 : tie.Need-returns-2
 unfolding yearsOf
-returns-2 c = rw (← c .before .before .before .named .ensures, ← c .before .before .named2 .ensures, c .before .if1 .left, c .if2 .taken)
+returns-2 c =
+    rw (
+      ← c .before .before .before .named .ensures,
+      ← c .before .before .named2 .ensures,
+      c .before .if1 .left,
+      c .if2 .taken,
+    )
 
 named-requires-3 : tie.Need-named-requires-3
 named-requires-3 c κs = search needs
@@ -25,7 +31,15 @@ named-requires-4 c κs = search needs
 
 returns-3 : tie.Need-returns-3
 unfolding yearsOf
-returns-3 c = rw (← c .before .before .before .before .before .named .ensures, ← c .before .before .before .before .named2 .ensures, c .before .before .before .if1 .left, c .before .before .if2 .left, c .before .named3 .ensures, c .named4 .ensures)
+returns-3 c =
+    rw (
+      ← c .before .before .before .before .before .named .ensures,
+      ← c .before .before .before .before .named2 .ensures,
+      c .before .before .before .if1 .left,
+      c .before .before .if2 .left,
+      c .before .named3 .ensures,
+      c .named4 .ensures,
+    )
 
 pub years-of-spec : {M : Type 1} → statement M
 years-of-spec =

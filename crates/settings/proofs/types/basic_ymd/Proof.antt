@@ -1,5 +1,5 @@
-use borrow.Author.Tests.{eq-eqb, ne-eqb}
 use borrow.Author.Needs.{needs}
+use borrow.Author.Tests.{eq-eqb, ne-eqb}
 use Rattle.settings.proofs.types.basic_ymd.Statement.{statement}
 use Rattle.settings.proofs.types.basic_ymd.Tie as tie
 

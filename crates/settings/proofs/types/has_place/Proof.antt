@@ -1,5 +1,5 @@
-use Rattle.settings.specs.Types.{placed}
 use borrow.Author.Needs.{needs}
+use Rattle.settings.specs.Types.{placed}
 use Rattle.settings.proofs.types.has_place.Statement.{statement}
 use Rattle.settings.proofs.types.has_place.Tie as tie
 
@@ -14,7 +14,13 @@ either-requires-2 c κs = search needs
 
 returns : tie.Need-returns
 unfolding placed
-returns c = simp (← c .before .before .before .every-year .ensures, ← c .before .before .either .ensures, c .before .if1 .taken) (c .either2 .ensures)
+returns c =
+    simp (
+      ← c .before .before .before .every-year .ensures,
+      ← c .before .before .either .ensures,
+      c .before .if1 .taken,
+    )
+    (c .either2 .ensures)
 
 returns-2 : tie.Need-returns-2
 unfolding placed

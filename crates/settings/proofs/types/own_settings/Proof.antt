@@ -57,7 +57,12 @@ returns : tie.Need-returns
 returns c = search needs
 
 returns-2 : tie.Need-returns-2
-returns-2 c = simp (c .before .before .before .before .enum-told2 .given .1, c .before .before .parts .given .1) (c .basic-ymd .ensures)
+returns-2 c =
+    simp (
+      c .before .before .before .before .enum-told2 .given .1,
+      c .before .before .parts .given .1,
+    )
+    (c .basic-ymd .ensures)
 
 returns-3 : tie.Need-returns-3
 returns-3 c = search needs
@@ -69,7 +74,12 @@ returns-5 : tie.Need-returns-5
 returns-5 c = search needs
 
 returns-6 : tie.Need-returns-6
-returns-6 c = simp (c .before .before .before .before .enum-told5 .given .1, c .before .before .parts2 .given .1) (c .local-hms .ensures)
+returns-6 c =
+    simp (
+      c .before .before .before .before .enum-told5 .given .1,
+      c .before .before .parts2 .given .1,
+    )
+    (c .local-hms .ensures)
 
 returns-7 : tie.Need-returns-7
 returns-7 c = search needs
@@ -81,10 +91,23 @@ returns-9 : tie.Need-returns-9
 returns-9 c = search needs
 
 returns-10 : tie.Need-returns-10
-returns-10 c = simp (c .before .before .before .before .before .before .enum-told8 .given .1, c .before .before .before .before .parts3 .given .1, ← c .before .before .basic-ymd2 .ensures, c .before .if1 .taken) (c .local-hms2 .ensures)
+returns-10 c =
+    simp (
+      c .before .before .before .before .before .before .enum-told8 .given .1,
+      c .before .before .before .before .parts3 .given .1,
+      ← c .before .before .basic-ymd2 .ensures,
+      c .before .if1 .taken,
+    )
+    (c .local-hms2 .ensures)
 
 returns-11 : tie.Need-returns-11
-returns-11 c = simp (c .before .before .before .before .before .enum-told8 .given .1, c .before .before .before .parts3 .given .1, ← c .before .basic-ymd2 .ensures, c .if1 .left)
+returns-11 c =
+    simp (
+      c .before .before .before .before .before .enum-told8 .given .1,
+      c .before .before .before .parts3 .given .1,
+      ← c .before .basic-ymd2 .ensures,
+      c .if1 .left,
+    )
 
 pub own-settings-spec : {M : Type 1} → statement M
 own-settings-spec =

@@ -1,5 +1,5 @@
-use Rattle.settings.specs.Types.{wellFormed}
 use borrow.Author.Needs.{needs}
+use Rattle.settings.specs.Types.{wellFormed}
 use Rattle.settings.proofs.types.Type.well_formed.Statement.{statement}
 use Rattle.settings.proofs.types.Type.well_formed.Tie as tie
 

@@ -1,0 +1,4 @@
+-- What a reader must believe of settings lists, in the order of the paper's "What a type is".
+pub mod Octets
+pub mod Words
+pub mod Lists

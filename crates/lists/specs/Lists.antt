@@ -1,0 +1,98 @@
+-- "A list is `Property=Setting` pairs with one space between, in any order, each property at most once (47.10)."
+use Prim.Native.Nat.{ℕ, suc}
+use mathlib.Core.Bool.{Bool, true, false, not, _&&_, cond}
+use mathlib.Core.List.{List, [], _∷_}
+use lib.Dec.{eqb, ltb}
+use lib.ListN.{getD, set}
+use Rattle.lists.specs.Words.{pairOf}
+use Rattle.lists.specs.declared.words.Pair.{Pair}
+use Rattle.lists.specs.declared.lists.Settings.{Settings}
+
+-- An octet before the first piece.
+abbrev pub withFirst : ℕ → List (List ℕ) → List (List ℕ)
+withFirst x [] = (x ∷ []) ∷ []
+withFirst x (w ∷ ws) = (x ∷ w) ∷ ws
+
+-- The pieces of a text between the octets c: always one more than there are such octets.
+unfoldable pub splitOn : ℕ → List ℕ → List (List ℕ)
+splitOn c [] = [] ∷ []
+splitOn c (x ∷ l) = cond (eqb x c) ([] ∷ splitOn c l) (withFirst x (splitOn c l))
+
+-- How many octets stand before the first c.
+unfoldable pub spanTo : ℕ → List ℕ → ℕ
+spanTo c [] = 0
+spanTo c (x ∷ l) = cond (eqb x c) 0 (suc (spanTo c l))
+
+-- The settings of a list: for each of the five properties the number of its setting, 0 where it is missing.
+abbrev pub settings : List ℕ → Settings
+settings ns = record { readable = true; numbers = ns }
+
+-- No property has a setting.
+abbrev pub noneYet : List ℕ
+noneYet = 0 ∷ 0 ∷ 0 ∷ 0 ∷ 0 ∷ []
+
+-- Any list that is refused.
+abbrev pub refused : Settings
+refused = record { readable = false; numbers = noneYet }
+
+-- "each property at most once": one pair more, refused where it is no setting, or where its property has one already.
+unfoldable pub addPair : Settings → Pair → Settings
+addPair s p =
+    cond (s .readable && (ltb 0 (p .setting) && eqb (getD (s .numbers) (p .property) 0) 0))
+    (settings (set (s .numbers) (p .property) (p .setting)))
+    refused
+
+-- All the pairs that these texts are.
+unfoldable pub addPairs : Settings → List (List ℕ) → Settings
+addPairs s [] = s
+addPairs s (w ∷ ws) = addPairs (addPair s (pairOf w)) ws
+
+-- The number of each property's setting: Basic, ..
+abbrev pub basicIn : Settings → ℕ
+basicIn s = getD (s .numbers) 0 0
+
+-- .. Date, ..
+abbrev pub dateIn : Settings → ℕ
+dateIn s = getD (s .numbers) 1 0
+
+-- .. Year, ..
+abbrev pub yearIn : Settings → ℕ
+yearIn s = getD (s .numbers) 2 0
+
+-- .. Time, ..
+abbrev pub timeIn : Settings → ℕ
+timeIn s = getD (s .numbers) 3 0
+
+-- .. and Local-or-UTC.
+abbrev pub zoneIn : Settings → ℕ
+zoneIn s = getD (s .numbers) 4 0
+
+-- A list has a date unless its Basic is Time, ..
+unfoldable pub datedList : Settings → Bool
+datedList s = not (eqb (basicIn s) 2)
+
+-- .. and a time unless its Basic is Date.
+unfoldable pub timedList : Settings → Bool
+timedList s = not (eqb (basicIn s) 1)
+
+-- "present exactly when".
+abbrev pub presentIf : Bool → ℕ → Bool
+presentIf true n = not (eqb n 0)
+presentIf false n = eqb n 0
+
+-- Basic "always present"; Date and Year "present exactly when the value has a date"; Time and Local-or-UTC "present exactly when the value has a time".
+unfoldable pub complete : Settings → Bool
+complete s =
+    not (eqb (basicIn s) 0)
+    && presentIf (datedList s) (dateIn s)
+    && presentIf (datedList s) (yearIn s)
+    && presentIf (timedList s) (timeIn s)
+    && presentIf (timedList s) (zoneIn s)
+
+-- A list with something missing, or out of place, is refused.
+unfoldable pub completed : Settings → Settings
+completed s = cond (complete s) s refused
+
+-- The list that a text is.
+unfoldable pub listOf : List ℕ → Settings
+listOf l = completed (addPairs (settings noneYet) (splitOn 32 l))

@@ -1,0 +1,74 @@
+-- "A list is `Property=Setting` pairs": the words of the base settings.
+use Prim.Native.Nat.{ℕ, suc, _+_, _-_, _*_}
+use Prim.Native.String.{String}
+use mathlib.Core.Bool.{_&&_, cond}
+use mathlib.Core.List.{List, [], _∷_}
+use lib.Dec.{eqb, leb}
+use lib.ListN.{length, getD, take}
+use Rattle.lists.specs.Octets.{bytes, eqList}
+use Rattle.lists.specs.declared.words.Pair.{Pair}
+
+-- The place of a text among words that are counted from k, or 0 where it is none of them.
+unfoldable pub placeFrom : ℕ → List String → List ℕ → ℕ
+placeFrom k [] l = 0
+placeFrom k (w ∷ ws) l = cond (eqList l (bytes w)) k (placeFrom (suc k) ws l)
+
+-- The same, counted from 1.
+abbrev pub placeIn : List String → List ℕ → ℕ
+placeIn = placeFrom 1
+
+-- "`Basic`: Date, Time, Date-Time."
+abbrev pub basicWords : List String
+basicWords = "Basic=Date" ∷ "Basic=Time" ∷ "Basic=Date-Time" ∷ []
+
+-- "`Date`: Y, YM, YMD, YD, YW, YWD."
+abbrev pub dateWords : List String
+dateWords = "Date=Y" ∷ "Date=YM" ∷ "Date=YMD" ∷ "Date=YD" ∷ "Date=YW" ∷ "Date=YWD" ∷ []
+
+-- "`Year`: Basic, Proleptic, Negative, L5."
+abbrev pub yearWords : List String
+yearWords = "Year=Basic" ∷ "Year=Proleptic" ∷ "Year=Negative" ∷ "Year=L5" ∷ []
+
+-- "`Time`: H, HM, HMS, HFn, HMFn, HMSFn, with n from 1 to 9."
+abbrev pub clockWords : List String
+clockWords = "Time=H" ∷ "Time=HM" ∷ "Time=HMS" ∷ []
+
+-- The words that a digit n follows.
+abbrev pub fractionWords : List String
+fractionWords = "Time=HF" ∷ "Time=HMF" ∷ "Time=HMSF" ∷ []
+
+-- "`Local-or-UTC`: L, Z, LD."
+abbrev pub zoneWords : List String
+zoneWords = "Local-or-UTC=L" ∷ "Local-or-UTC=Z" ∷ "Local-or-UTC=LD" ∷ []
+
+-- The number of a Time setting with n digits, from that of its word; 0 stays 0.
+abbrev pub withDigits : ℕ → ℕ → ℕ
+withDigits n k = cond (eqb k 0) 0 (n * 10 + k)
+
+-- A fraction word with one digit, 1 to 9, after it.
+unfoldable pub fractionNumber : List ℕ → ℕ
+fractionNumber l =
+    cond (leb 49 (getD l (length l - 1) 0) && leb (getD l (length l - 1) 0) 57)
+    (withDigits (getD l (length l - 1) 0 - 48) (placeIn fractionWords (take (length l - 1) l)))
+    0
+
+-- The first number that is not 0.
+abbrev pub orElse : ℕ → ℕ → ℕ
+orElse m n = cond (eqb m 0) n m
+
+-- "`Property=Setting`": the property, 0 to 4 in the order of "Base settings", and the number of its setting, 0 where the text is none.
+abbrev pub pair : ℕ → ℕ → Pair
+pair p n = record { property = p; setting = n }
+
+-- The first pair that is a setting.
+abbrev pub firstOf : Pair → Pair → Pair
+firstOf p q = cond (eqb (p .setting) 0) q p
+
+-- The pair that a text is.
+unfoldable pub pairOf : List ℕ → Pair
+pairOf l =
+    firstOf (pair 0 (placeIn basicWords l))
+    (firstOf (pair 1 (placeIn dateWords l))
+    (firstOf (pair 2 (placeIn yearWords l))
+    (firstOf (pair 3 (orElse (placeIn clockWords l) (fractionNumber l)))
+    (pair 4 (placeIn zoneWords l)))))

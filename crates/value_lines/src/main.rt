@@ -1,0 +1,281 @@
+// Reads lines from standard input and replies to each. A line `LIMITS;TYPE;TEXT` asks for the number of
+// the text under the type, and after 0 for the canonical text; LIMITS is one octet of a menu. A line
+// `=;TYPE;TYPE` asks whether two types select the same rows, and for their numbers of fraction digits.
+// The reply to any other line is `?`.
+use calendar::Year;
+use libc::STDIN_FILENO;
+use libc::STDOUT_FILENO;
+use values::Admission;
+use values::Limits;
+use values::Type;
+use values::TypeRead;
+use values::Value;
+use values::Window;
+ghost use Prim.Native.Nat.{_≤_};
+ghost use lib.ListN.{length};
+
+// What is held of the line that is being read: so many octets at the front of a buffer, and whether there
+// were more than the buffer has.
+struct Held {
+    length: usize,
+    long: bool,
+}
+
+// The limits of a menu's octet, or that the menu has none such.
+enum Choice {
+    Limits(Limits),
+    Unknown,
+}
+
+// The place of the first semicolon from a place on, or the end.
+fn semicolon(text: &[u8], from: usize) -> usize
+    ensures { λ r. ⌜ r ≤ length (now (text .entry)) ⌝ }
+{
+    let mut place = from;
+    while place < text.len() {
+        if text[place] == b';' {
+            return place;
+        }
+        place += 1;
+    }
+    text.len()
+}
+
+// Limits without hour 24, or with a window of years.
+fn years(lowest: i32, highest: i32, hour24: bool) -> Choice {
+    let window = Window::Within(Year::of(lowest), Year::of(highest));
+    Choice::Limits(Limits { window, hour24 })
+}
+
+fn any_year(hour24: bool) -> Choice {
+    let window = Window::Every;
+    Choice::Limits(Limits { window, hour24 })
+}
+
+fn limits_of(octet: u8) -> Choice {
+    match octet {
+        b'0' => any_year(true),
+        b'1' => years(2000, 2010, true),
+        b'2' => years(1582, 9999, true),
+        b'3' => years(-9999, -1, true),
+        b'4' => years(2010, 2000, true),
+        b'5' => years(-2147483648, 2147483647, true),
+        b'6' => years(0, 0, true),
+        b'7' => years(-12000, 12000, true),
+        b'8' => any_year(false),
+        b'9' => years(2000, 2010, false),
+        _ => Choice::Unknown,
+    }
+}
+
+// Writes a word and the end of the line.
+fn say(word: &[u8]) {
+    io::write_all(STDOUT_FILENO, word);
+    io::write_all(STDOUT_FILENO, b"\n");
+}
+
+// Writes a number below ten.
+fn digit(number: u32) {
+    let octet = [b'0' + (number % 10) as u8];
+    io::write_all(STDOUT_FILENO, &octet);
+}
+
+// The reply with the canonical text.
+fn text_reply(value: Value) {
+    let mut room = [0u8; 64];
+    let outcome = values::write_text(value, &mut room);
+    let length = outcome.length.count;
+    digit(outcome.number);
+    io::write_all(STDOUT_FILENO, b" ");
+    if length <= 64 {
+        say(&room[..length]);
+    }
+}
+
+fn number_reply(number: u32) {
+    digit(number);
+    io::write_all(STDOUT_FILENO, b"\n");
+}
+
+// The reply to a text under a type.
+fn value_reply(t: Type, text: &[u8]) {
+    let admission = values::admit(t, text);
+    match admission {
+        Admission::Value(value) => text_reply(value),
+        Admission::Refused(why) => number_reply(why.number()),
+    }
+}
+
+// The reply to a text under a type's text.
+fn type_reply(limits: Limits, settings: &[u8], text: &[u8]) {
+    let read = values::read_type(settings, limits);
+    match read {
+        TypeRead::Type(t) => value_reply(t, text),
+        TypeRead::Unreadable => number_reply(1),
+        TypeRead::NoRow => number_reply(2),
+    }
+}
+
+// The reply on the rows of two types.
+fn rows_of(a: Type, b: Type) {
+    if values::same_rows(a, b) {
+        io::write_all(STDOUT_FILENO, b"0 same ");
+    } else {
+        io::write_all(STDOUT_FILENO, b"0 other ");
+    }
+    digit(a.fraction_digits());
+    io::write_all(STDOUT_FILENO, b" ");
+    number_reply(b.fraction_digits());
+}
+
+fn second_rows(a: Type, settings: &[u8]) {
+    let read = values::read_type(settings, Limits::NONE);
+    match read {
+        TypeRead::Type(b) => rows_of(a, b),
+        TypeRead::Unreadable => number_reply(1),
+        TypeRead::NoRow => number_reply(2),
+    }
+}
+
+fn rows_reply(first: &[u8], second: &[u8]) {
+    let read = values::read_type(first, Limits::NONE);
+    match read {
+        TypeRead::Type(a) => second_rows(a, second),
+        TypeRead::Unreadable => number_reply(1),
+        TypeRead::NoRow => number_reply(2),
+    }
+}
+
+// The reply to a line.
+fn reply(line: &[u8]) {
+    let first = semicolon(line, 0);
+    if first != 1 {
+        return say(b"?");
+    }
+    let second = semicolon(line, 2);
+    if line.len() <= second {
+        return say(b"?");
+    }
+    if second < 2 {
+        return say(b"?");
+    }
+    let octet = line[0];
+    if octet == b'=' {
+        return rows_reply(&line[2..second], &line[second + 1..]);
+    }
+    let Choice::Limits(limits) = limits_of(octet) else {
+        return say(b"?");
+    };
+    type_reply(limits, &line[2..second], &line[second + 1..])
+}
+
+// The line has ended.
+fn finish(line: &[u8], held: Held)
+    requires { ⌜ held .length ≤ length (now line) ⌝ }
+{
+    if held.long {
+        return say(b"?");
+    }
+    let n = held.length;
+    reply(&line[0..n])
+}
+
+// The octet at the end of the line, or the line marked as too long.
+fn put(line: &mut [u8], held: Held, octet: u8) -> Held
+    requires { ⌜ held .length ≤ length (now line) ⌝ }
+    ensures { λ r. ⌜ r .length ≤ length (now (line .exit)) ⌝ }
+{
+    let at = held.length;
+    if at < line.len() {
+        line[at] = octet;
+        Held {
+            length: at + 1,
+            long: held.long,
+        }
+    } else {
+        Held {
+            length: at,
+            long: true,
+        }
+    }
+}
+
+// One octet of the input.
+fn accept(line: &mut [u8], held: Held, octet: u8) -> Held
+    requires { ⌜ held .length ≤ length (now line) ⌝ }
+    ensures { λ r. ⌜ r .length ≤ length (now (line .exit)) ⌝ }
+{
+    if octet == b'\n' {
+        finish(line, held);
+        return Held {
+            length: 0,
+            long: false,
+        };
+    }
+    put(line, held, octet)
+}
+
+fn take(octets: &[u8], line: &mut [u8], start: Held) -> Held
+    requires { ⌜ start .length ≤ length (now line) ⌝ }
+    ensures { λ r. ⌜ r .length ≤ length (now (line .exit)) ⌝ }
+{
+    let mut held = start;
+    let mut i = 0;
+    while i < octets.len() {
+        held = accept(line, held, octets[i]);
+        i += 1;
+    }
+    held
+}
+
+// What one read leaves: the line so far, and whether there may be more.
+struct Turn {
+    more: bool,
+    held: Held,
+}
+
+fn read_some(line: &mut [u8], held: Held) -> Turn
+    requires { ⌜ held .length ≤ length (now line) ⌝ }
+    ensures { λ r. ⌜ r .held .length ≤ length (now (line .exit)) ⌝ }
+{
+    let mut buffer = [0u8; 4096];
+    let got = libc::read(STDIN_FILENO, &mut buffer);
+    let n = io::count(got, &buffer);
+    if n == 0 {
+        return Turn { more: false, held };
+    }
+    let next = take(&buffer[..n], line, held);
+    Turn {
+        more: true,
+        held: next,
+    }
+}
+
+// A proved loop has to end, and nothing says that the input does: the loop counts its turns down, from a
+// number that no run uses up.
+fn read_all(line: &mut [u8]) -> Held
+    ensures { λ r. ⌜ r .length ≤ length (now (line .exit)) ⌝ }
+{
+    let mut held = Held {
+        length: 0,
+        long: false,
+    };
+    let mut turns = u64::MAX;
+    while turns > 0 {
+        let turn = read_some(line, held);
+        held = turn.held;
+        if !turn.more {
+            return held;
+        }
+        turns -= 1;
+    }
+    held
+}
+
+fn main() {
+    let mut line = [0u8; 8192];
+    let held = read_all(&mut line);
+    if 0 < held.length {
+        finish(&line, held);
+    }
+}
