@@ -1,7 +1,5 @@
 """Sees that each public function of a library states what it returns and asks nothing of its caller: it has
-an `ensures` that names the result, and no `requires`. A function in a module that the library keeps to itself
-is public where the library's root passes it on, and then only it is looked at; any other must still have an
-`ensures`. Prints each that does not and exits 1, or prints nothing."""
+an `ensures` that names the result, and no `requires`. Prints each that does not and exits 1, or prints nothing."""
 
 import re
 import sys
@@ -26,24 +24,6 @@ def faults(text):
             yield match.group(1), "has a requires"
 
 
-def hidden(root, module):
-    """Whether a library's root keeps a module to itself."""
-    return re.search(rf"^mod {module};", root, re.M) is not None
-
-
-def passed_on(root, module):
-    """The names of a module that a library's root passes on."""
-    return re.findall(rf"^pub use {module}::(\w+);", root, re.M)
-
-
-def faults_in(root, module, text):
-    """The faults of a module's source text, as its library's root shows it."""
-    for name, fault in faults(text):
-        if fault == "has a requires" and hidden(root, module) and name not in passed_on(root, module):
-            continue
-        yield name, fault
-
-
 def self_test():
     """Each fault is found, and a good function has none."""
     good = "pub fn a(x: u8) -> u8\n    ensures { λ r. ⌜ r ≡ x ⌝ }\n{\n    x\n}\n"
@@ -53,9 +33,6 @@ def self_test():
     found = [name for name, _ in faults(good + silent + vague + asking)]
     if found != ["b", "c", "d"]:
         sys.exit(f"contracts.py does not find what it should: {found}")
-    for root, expected in (("pub mod m;\n", ["d"]), ("mod m;\n", []), ("mod m;\npub use m::d;\n", ["d"])):
-        if [name for name, _ in faults_in(root, "m", asking)] != expected:
-            sys.exit("contracts.py does not know which functions are public")
 
 
 def main():
@@ -65,7 +42,7 @@ def main():
         f"{file.relative_to(ROOT)}: {name} {fault}"
         for crate in libraries
         for file in sorted(crate.glob("src/**/*.rt"))
-        for name, fault in faults_in((crate / "src/lib.rt").read_text("utf-8"), file.stem, file.read_text("utf-8"))
+        for name, fault in faults(file.read_text("utf-8"))
     ]
     print("\n".join(bad), end="\n" if bad else "")
     sys.exit(1 if bad or not libraries else 0)

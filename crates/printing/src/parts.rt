@@ -231,7 +231,7 @@ fn put_time(b: &mut [u8], at: usize, time: Time) -> usize
 }
 
 // A value.
-pub fn put_value(b: &mut [u8], at: usize, value: Value) -> usize
+pub(crate) fn put_value(b: &mut [u8], at: usize, value: Value) -> usize
     requires { ⌜ (formDigits (valueForm value) ≤ 9) × (at + 53 ≤ length (now b)) ⌝ }
     ensures { λ r. ⌜ Put (now (b .entry)) (now (b .exit)) at (textOf value) r ⌝ }
     ensures { λ r. ⌜ r ≤ at + 53 ⌝ }

@@ -74,7 +74,7 @@ fn signed(text: &[u8], at: usize, below: bool) -> YearStep
 }
 
 // A year: four digits, or a sign with its digits.
-pub fn year(text: &[u8], at: usize) -> YearStep
+pub(crate) fn year(text: &[u8], at: usize) -> YearStep
     ensures { λ r. ⌜ seenYear (now (text .entry)) r ≡ getYear longest (drop at (now (text .entry))) ⌝ }
 {
     if mark(text, at, b'-') {

@@ -9,7 +9,7 @@ use texts::Value;
 use texts::Zone;
 
 // The fields of a clock; one that it does not show is 0.
-pub fn hours(clock: Clock) -> u32
+pub(crate) fn hours(clock: Clock) -> u32
     ensures { λ r. ⌜ r ≡ hoursOf clock ⌝ }
 {
     match clock {
@@ -19,7 +19,7 @@ pub fn hours(clock: Clock) -> u32
     }
 }
 
-pub fn minutes(clock: Clock) -> u32
+pub(crate) fn minutes(clock: Clock) -> u32
     ensures { λ r. ⌜ r ≡ minutesOf clock ⌝ }
 {
     match clock {
@@ -29,7 +29,7 @@ pub fn minutes(clock: Clock) -> u32
     }
 }
 
-pub fn seconds(clock: Clock) -> u32
+pub(crate) fn seconds(clock: Clock) -> u32
     ensures { λ r. ⌜ r ≡ secondsOf clock ⌝ }
 {
     match clock {
