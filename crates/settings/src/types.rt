@@ -304,54 +304,42 @@ fn digits_of(parts: Parts) -> u32
     }
 }
 
+// The settings that the names stand for: YMD with Year=Basic, and HMS with L.
+const YMD_BASIC: DateType = DateType {
+    form: DateForm::YMD,
+    years: Years::Plain(PlainYears {
+        basic: true,
+        proleptic: false,
+    }),
+    window: Window::Every,
+};
+
+const HMS_LOCAL: TimeType = TimeType {
+    form: TimeForm {
+        clock: ClockForm::HMS,
+        digits: 0,
+        zone: ZoneForm::L,
+    },
+    hour24: true,
+};
+
 impl Type {
     // Year, month and day of the years 1582 to 9999.
     pub const DATE: Type = Type {
         name: Name::Date,
-        parts: Parts::Date(DateType {
-            form: DateForm::YMD,
-            years: Years::Plain(PlainYears {
-                basic: true,
-                proleptic: false,
-            }),
-            window: Window::Every,
-        }),
+        parts: Parts::Date(YMD_BASIC),
     };
 
     // Hours, minutes and seconds of local time.
     pub const TIME_OF_DAY: Type = Type {
         name: Name::TimeOfDay,
-        parts: Parts::Time(TimeType {
-            form: TimeForm {
-                clock: ClockForm::HMS,
-                digits: 0,
-                zone: ZoneForm::L,
-            },
-            hour24: true,
-        }),
+        parts: Parts::Time(HMS_LOCAL),
     };
 
     // Both together.
     pub const DATE_TIME: Type = Type {
         name: Name::DateTime,
-        parts: Parts::DateTime(
-            DateType {
-                form: DateForm::YMD,
-                years: Years::Plain(PlainYears {
-                    basic: true,
-                    proleptic: false,
-                }),
-                window: Window::Every,
-            },
-            TimeType {
-                form: TimeForm {
-                    clock: ClockForm::HMS,
-                    digits: 0,
-                    zone: ZoneForm::L,
-                },
-                hour24: true,
-            },
-        ),
+        parts: Parts::DateTime(YMD_BASIC, HMS_LOCAL),
     };
 
     // The type of a date with these settings.

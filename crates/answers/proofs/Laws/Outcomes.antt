@@ -13,6 +13,7 @@ use lib.Seq.{take-suc, drop-cons, set-at, length-take-le, append-snoc, take-appe
 use borrow.Author.Tests.{le-leb, lt-leb, leb-true, leb-false}
 use Rattle.answers.specs.declared.counts.Bits.{Bits}
 use Rattle.answers.specs.declared.refusals.Refusal.{Refusal}
+use Rattle.answers.specs.declared.outcomes.Outcome.{Outcome}
 use Rattle.answers.specs.Refusals.{numberOf}
 use Rattle.answers.specs.Outcomes.{Answer, done, refused, refusal, success, fits, outcomeOf, roomOf}
 
@@ -64,6 +65,16 @@ module _ (result room : List ℕ) (bits : Bits) where
       → (outcomeOf (done result bits) room ≡ refusal Refusal.Room) × (roomOf (done result bits) room ≡ room)
   unfolding outcomeOf roomOf fits
   short h = let t = lt-leb (length result) (length room) h in (simp t, simp t)
+
+module _ (result room : List ℕ) (bits : Bits) {r : Outcome} {m : List ℕ} where
+  -- what is to be shown of code that refuses for the room and leaves it, and of code that puts the result into it
+  pub left-out : length room < length result → r ≡ refusal Refusal.Room → m ≡ room
+      → (r ≡ outcomeOf (done result bits) room) × (m ≡ roomOf (done result bits) room)
+  left-out h e f = let k = short result room bits h in (e ∙ sym (k .0), f ∙ sym (k .1))
+
+  pub put-in : length result ≤ length room → r ≡ success result bits → m ≡ result ++ drop (length result) room
+      → (r ≡ outcomeOf (done result bits) room) × (m ≡ roomOf (done result bits) room)
+  put-in h e f = let k = enough result room bits h in (e ∙ sym (k .0), f ∙ sym (k .1))
 
 pub none : (why : Refusal) (room : List ℕ) → (outcomeOf (refused why) room ≡ refusal why) × (roomOf (refused why) room ≡ room)
 unfolding outcomeOf roomOf

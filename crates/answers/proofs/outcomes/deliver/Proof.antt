@@ -1,7 +1,8 @@
-use mathlib.Core.Path.{sym, _∙_}
+-- `outcomes::deliver` meets its contract: the room is shorter and stays as it was, or the result has its place.
+use mathlib.Core.Path.{refl}
 use native.Mathlib.Omega.{arith}
 use borrow.Author.Needs.{needs}
-use Rattle.answers.proofs.Laws.Outcomes.{enough, short}
+use Rattle.answers.proofs.Laws.Outcomes.{left-out, put-in}
 use Rattle.answers.proofs.outcomes.deliver.Statement.{statement}
 use Rattle.answers.proofs.outcomes.deliver.Tie as tie
 
@@ -9,10 +10,7 @@ refused-requires : tie.Need-refused-requires
 refused-requires c κs = search needs
 
 returns : tie.Need-returns
-returns c =
-    let a = c .before .before .before .before .args in
-    let k = short (a .octets .now) (a .room .now) (a .bits) (omega arith) in
-    (c .refused .ensures ∙ sym (k .0), sym (k .1))
+returns c = left-out _ _ _ (omega arith) (c .refused .ensures) refl
 
 copy-front-requires : tie.Need-copy-front-requires
 copy-front-requires c κs = search needs
@@ -21,10 +19,7 @@ same-length : tie.Need-same-length
 same-length c = search needs
 
 returns-2 : tie.Need-returns-2
-returns-2 c =
-    let a = c .before .before .before .before .before .before .before .args in
-    let k = enough (a .octets .now) (a .room .now) (a .bits) (omega arith) in
-    (sym (k .0), c .before .before .copy-front .ensures ∙ sym (k .1))
+returns-2 c = put-in _ _ _ (omega arith) refl (c .before .before .copy-front .ensures)
 
 pub deliver-spec : {M : Type 1} → statement M
 deliver-spec = tie.close (tie.spec refused-requires returns copy-front-requires same-length returns-2)
