@@ -3,3 +3,4 @@ pub mod Existence
 pub mod CheckedExistence
 pub mod Holding
 pub mod Existing
+pub mod Checked

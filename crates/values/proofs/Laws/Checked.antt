@@ -1,0 +1,136 @@
+-- Texts under types as checked values: a type's text, a text, the number that it gives, and after 0 the canonical text.
+use mathlib.Core.Path.{_≡_, refl}
+use mathlib.Core.Bool.{_&&_, Bool, true}
+use mathlib.Core.List.{_∷_, List, []}
+use Prim.Native.Nat.{ℕ}
+use Prim.Native.String.{String}
+use lib.Dec.{eqb}
+use Rattle.calendar.specs.Dates.{upTo}
+use Rattle.calendar.specs.Integers.{divisible, quotient, remainder}
+use Rattle.calendar.specs.Months.{monthLengthOf}
+use Rattle.calendar.specs.Weeks.{daysOfYears, newYear, weekOf, weekOneOf, weeksOf}
+use Rattle.calendar.specs.Years.{astronomicalOf, leapOf, yearAt, yearLengthOf}
+use Rattle.lists.specs.Lists.{addPair, addPairs, complete, completed, datedList, listOf, splitOn, timedList}
+use Rattle.lists.specs.Octets.{bytes, eqList}
+use Rattle.lists.specs.Words.{fractionNumber, pairOf, placeFrom}
+use Rattle.settings.specs.Settings.{clockAt, dateAt, zoneAt}
+use Rattle.settings.specs.TypeTexts.{allOf, distinct, equalLists, joined, listType, listsOf, member, oneRow, sameButYear, timeAt, typeOf, usable, yearFamily, yearsOf}
+use Rattle.settings.specs.Types.{limitedTo, noLimits, placed, typeNumber, wellFormed}
+use Rattle.settings.specs.declared.types.TypeRead.{TypeRead}
+use Rattle.texts.specs.Dates.{getAfter, getDate, getWeek, putAfter, putDate}
+use Rattle.texts.specs.Digits.{getDigits, getField, leading, putDigits}
+use Rattle.texts.specs.Texts.{getValue, readUpTo, render, textOf}
+use Rattle.texts.specs.Times.{getAfterHours, getClock, getDifference, getFraction, getMinutes, getTime, getZone, putClock, putFraction, putTime, putZone}
+use Rattle.texts.specs.Years.{getSigned, getYear, signedFits, sizeIn, yearDigits, yearText}
+use Rattle.values.specs.Admission.{admissionNumber, admitted, judged}
+use Rattle.values.specs.Existence.{existsClock, existsDifference, existsFraction, existsTime}
+use Rattle.values.specs.Forms.{sameDateForm, sameTimeForm}
+use Rattle.values.specs.Holding.{admitsDate, admitsTime, between, holdsOf, inType}
+use Rattle.values.specs.declared.admission.Admission.{Admission}
+
+data Row : Type 0 where
+  row : String → String → ℕ → String → Row
+
+rows : List Row
+rows =
+    -- dates, and the paper's own
+    row "DATE" "2006-06-13" 0 "2006-06-13" ∷
+    row "DATE" "2004-02-29" 0 "2004-02-29" ∷
+    row "DATE" "2006-02-29" 4 "" ∷
+    row "DATE" "1500-02-30" 4 "" ∷
+    row "DATE" "1581-12-31" 5 "" ∷
+    row "DATE" "" 3 "" ∷
+    -- "a field of the right digit count is of the form at any number"
+    row "DATE" "2006-13-01" 4 "" ∷
+    row "DATE" "2006-00-01" 4 "" ∷
+    row "DATE" "2006-6-13" 3 "" ∷
+    row "DATE" "2006-06-131" 3 "" ∷
+    row "DATE" "2006-06-13Z" 3 "" ∷
+    row "DATE" "2006/06/13" 3 "" ∷
+    -- "whichever Year the type names; a year of another setting than the type's is refusal 5"
+    row "DATE" "+12006-06-13" 5 "" ∷
+    row "DATE" "-0044-03-15" 5 "" ∷
+    row "DATE" "20060-06-13" 3 "" ∷
+    row "DATE" "+2006-06-13" 3 "" ∷
+    row "Basic=Date Date=Y Year=Negative" "-0128" 0 "-0128" ∷
+    row "Basic=Date Date=Y Year=Negative" "-0000" 3 "" ∷
+    row "Basic=Date Date=Y Year=Negative" "0128" 5 "" ∷
+    row "Basic=Date Date=Y Year=Negative" "-12345" 5 "" ∷
+    row "Basic=Date Date=Y Year=L5" "+32767" 0 "+32767" ∷
+    row "Basic=Date Date=Y Year=L5" "-99999" 0 "-99999" ∷
+    row "Basic=Date Date=Y Year=L5" "+02006" 3 "" ∷
+    row "Basic=Date Date=Y Year=L5" "+100000" 3 "" ∷
+    row "Basic=Date Date=Y Year=Basic|Basic=Date Date=Y Year=Proleptic" "0000" 0 "0000" ∷
+    row "Basic=Date Date=Y Year=Basic|Basic=Date Date=Y Year=Proleptic" "9999" 0 "9999" ∷
+    row "Basic=Date Date=Y Year=Basic|Basic=Date Date=Y Year=Proleptic" "-0001" 5 "" ∷
+    row "Basic=Date Date=YM Year=Basic" "2006-06" 0 "2006-06" ∷
+    row "Basic=Date Date=YM Year=Basic" "2006-06-13" 3 "" ∷
+    row "Basic=Date Date=YD Year=Basic" "2004-366" 0 "2004-366" ∷
+    row "Basic=Date Date=YD Year=Basic" "2006-366" 4 "" ∷
+    row "Basic=Date Date=YW Year=Basic" "2020-W53" 0 "2020-W53" ∷
+    row "Basic=Date Date=YW Year=Basic" "2021-W53" 4 "" ∷
+    row "Basic=Date Date=YW Year=Basic" "2020-53" 3 "" ∷
+    row "Basic=Date Date=YWD Year=Basic" "2020-W53-7" 0 "2020-W53-7" ∷
+    row "Basic=Date Date=YWD Year=Basic" "2020-W53-8" 4 "" ∷
+    -- times
+    row "TIME-OF-DAY" "24:00:00" 0 "24:00:00" ∷
+    row "TIME-OF-DAY" "24:00:01" 4 "" ∷
+    row "TIME-OF-DAY" "23:59:60" 0 "23:59:60" ∷
+    row "TIME-OF-DAY" "12:34:60" 0 "12:34:60" ∷
+    row "TIME-OF-DAY" "12:34:61" 4 "" ∷
+    row "TIME-OF-DAY" "25:00:00" 4 "" ∷
+    row "TIME-OF-DAY" "15:27" 3 "" ∷
+    -- "The fraction's trailing zeros dropped, so that .500 and .5 meet"
+    row "Basic=Time Time=HMSF3 Local-or-UTC=L" "15:27:46.500" 0 "15:27:46.500" ∷
+    row "Basic=Time Time=HMSF3 Local-or-UTC=L" "15:27:46,500" 0 "15:27:46.500" ∷
+    row "Basic=Time Time=HMSF3 Local-or-UTC=L" "15:27:46.5" 3 "" ∷
+    row "Basic=Time Time=HMSF3 Local-or-UTC=L" "24:00:00.001" 4 "" ∷
+    -- differences
+    row "Basic=Time Time=H Local-or-UTC=LD" "10+01:00" 0 "10+01" ∷
+    row "Basic=Time Time=H Local-or-UTC=LD" "10-01:30" 0 "10-01:30" ∷
+    row "Basic=Time Time=H Local-or-UTC=LD" "10+00" 0 "10+00" ∷
+    row "Basic=Time Time=H Local-or-UTC=LD" "10+00:30" 0 "10+00:30" ∷
+    row "Basic=Time Time=H Local-or-UTC=LD" "10-00" 4 "" ∷
+    row "Basic=Time Time=H Local-or-UTC=LD" "10-00:30" 4 "" ∷
+    row "Basic=Time Time=H Local-or-UTC=LD" "10+15:59" 0 "10+15:59" ∷
+    row "Basic=Time Time=H Local-or-UTC=LD" "10+16" 4 "" ∷
+    row "Basic=Time Time=H Local-or-UTC=LD" "10+01:60" 4 "" ∷
+    row "Basic=Time Time=H Local-or-UTC=LD" "10Z" 3 "" ∷
+    row "Basic=Time Time=H Local-or-UTC=LD" "10" 3 "" ∷
+    row "Basic=Time Time=H Local-or-UTC=Z" "10Z" 0 "10Z" ∷
+    row "Basic=Time Time=H Local-or-UTC=Z" "10+00" 3 "" ∷
+    -- dates with times, and the lowest number where several hold
+    row "DATE-TIME" "2006-06-13T15:27:46" 0 "2006-06-13T15:27:46" ∷
+    row "DATE-TIME" "2006-06-13 15:27:46" 3 "" ∷
+    row "DATE-TIME" "1500-02-30T25:00:00" 4 "" ∷
+    row "DATE-TIME" "1500-02-30T25:00" 3 "" ∷
+    row "DATE-TIME" "1500-02-28T24:00:00" 5 "" ∷
+    row "Basic=Time Time=H" "25" 1 "" ∷
+    row "DATE|DATE" "2006-02-30" 1 "" ∷
+    row "Basic=Date Date=Y Year=Basic|Basic=Date Date=Y Year=L5" "206" 2 "" ∷
+    []
+
+numberIn : TypeRead → List ℕ → ℕ
+numberIn (TypeRead.«Type» t) l = admissionNumber (admitted t l)
+numberIn TypeRead.Unreadable l = typeNumber TypeRead.Unreadable
+numberIn TypeRead.NoRow l = typeNumber TypeRead.NoRow
+
+textAfter : Admission → List ℕ
+textAfter (Admission.Value v) = textOf v
+textAfter (Admission.Refused why) = []
+
+textIn : TypeRead → List ℕ → List ℕ
+textIn (TypeRead.«Type» t) l = textAfter (admitted t l)
+textIn TypeRead.Unreadable l = []
+textIn TypeRead.NoRow l = []
+
+allRight : List Row → Bool
+allRight [] = true
+allRight (row s text number canonical ∷ l) =
+    eqb (numberIn (typeOf noLimits (bytes s)) (bytes text)) number
+    && eqList (textIn (typeOf noLimits (bytes s)) (bytes text)) (bytes canonical)
+    && allRight l
+
+texts-checked : allRight rows ≡ true
+unfolding rows numberIn textAfter textIn allRight upTo quotient remainder divisible monthLengthOf daysOfYears newYear weekOf weekOneOf weeksOf astronomicalOf yearAt leapOf yearLengthOf putAfter putDate getWeek getAfter getDate putDigits getDigits getField leading render getValue readUpTo putClock getAfterHours getClock putFraction getFraction putZone getMinutes getDifference getZone putTime getTime sizeIn yearDigits yearText signedFits getSigned getYear splitOn addPair addPairs datedList timedList complete completed listOf eqList placeFrom fractionNumber pairOf dateAt clockAt zoneAt listsOf sameButYear yearFamily oneRow equalLists allOf distinct usable member yearsOf timeAt listType joined typeOf placed limitedTo wellFormed judged admitted existsClock existsFraction existsDifference existsTime sameDateForm sameTimeForm between admitsDate admitsTime inType holdsOf
+texts-checked = refl
