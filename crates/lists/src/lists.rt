@@ -56,7 +56,8 @@ fn add(list: Settings, pair: Pair) -> Settings
     if setting == 0 {
         return REFUSED;
     }
-    if numbers[property] != 0 {
+    let before = numbers[property];
+    if before != 0 {
         return REFUSED;
     }
     numbers[property] = setting;

@@ -68,33 +68,40 @@ fn limits_of(octet: u8) -> Choice {
     }
 }
 
-// Writes a word and the end of the line.
-fn say(word: &[u8]) {
-    io::write_all(STDOUT_FILENO, word);
-    io::write_all(STDOUT_FILENO, b"\n");
+// The digit of a number below ten.
+fn digit(number: u32) -> u8 {
+    b'0' + (number % 10) as u8
 }
 
-// Writes a number below ten.
-fn digit(number: u32) {
-    let octet = [b'0' + (number % 10) as u8];
-    io::write_all(STDOUT_FILENO, &octet);
+// Writes a reply.
+fn write(octets: &[u8]) {
+    io::write_all(STDOUT_FILENO, octets);
 }
 
-// The reply with the canonical text.
-fn text_reply(value: Value) {
-    let mut room = [0u8; 64];
-    let outcome = values::write_text(value, &mut room);
-    let length = outcome.length.count;
-    digit(outcome.number);
-    io::write_all(STDOUT_FILENO, b" ");
-    if length <= 64 {
-        say(&room[..length]);
-    }
+// The reply to a line that asks nothing.
+fn no_question() {
+    write(b"?\n")
 }
 
 fn number_reply(number: u32) {
-    digit(number);
-    io::write_all(STDOUT_FILENO, b"\n");
+    let octets = [digit(number), b'\n'];
+    write(&octets)
+}
+
+// The reply with the canonical text. The rest of a lent room stays as it is, so a newline stands behind the text.
+fn text_reply(value: Value) {
+    let mut octets = [b'\n'; 64];
+    octets[0] = b'0';
+    octets[1] = b' ';
+    let outcome = values::write_text(value, &mut octets[2..]);
+    if outcome.number != 0 {
+        return number_reply(outcome.number);
+    }
+    let end = outcome.length.count;
+    if 61 < end {
+        return no_question();
+    }
+    write(&octets[..end + 3])
 }
 
 // The reply to a text under a type.
@@ -118,14 +125,39 @@ fn type_reply(limits: Limits, settings: &[u8], text: &[u8]) {
 
 // The reply on the rows of two types.
 fn rows_of(a: Type, b: Type) {
+    let first = digit(a.fraction_digits());
+    let second = digit(b.fraction_digits());
     if values::same_rows(a, b) {
-        io::write_all(STDOUT_FILENO, b"0 same ");
-    } else {
-        io::write_all(STDOUT_FILENO, b"0 other ");
+        let octets = [
+            b'0',
+            b' ',
+            b's',
+            b'a',
+            b'm',
+            b'e',
+            b' ',
+            first,
+            b' ',
+            second,
+            b'\n',
+        ];
+        return write(&octets);
     }
-    digit(a.fraction_digits());
-    io::write_all(STDOUT_FILENO, b" ");
-    number_reply(b.fraction_digits());
+    let octets = [
+        b'0',
+        b' ',
+        b'o',
+        b't',
+        b'h',
+        b'e',
+        b'r',
+        b' ',
+        first,
+        b' ',
+        second,
+        b'\n',
+    ];
+    write(&octets)
 }
 
 fn second_rows(a: Type, settings: &[u8]) {
@@ -150,21 +182,21 @@ fn rows_reply(first: &[u8], second: &[u8]) {
 fn reply(line: &[u8]) {
     let first = semicolon(line, 0);
     if first != 1 {
-        return say(b"?");
+        return no_question();
     }
     let second = semicolon(line, 2);
     if line.len() <= second {
-        return say(b"?");
+        return no_question();
     }
     if second < 2 {
-        return say(b"?");
+        return no_question();
     }
     let octet = line[0];
     if octet == b'=' {
         return rows_reply(&line[2..second], &line[second + 1..]);
     }
     let Choice::Limits(limits) = limits_of(octet) else {
-        return say(b"?");
+        return no_question();
     };
     type_reply(limits, &line[2..second], &line[second + 1..])
 }
@@ -174,7 +206,7 @@ fn finish(line: &[u8], held: Held)
     requires { ⌜ held .length ≤ length (now line) ⌝ }
 {
     if held.long {
-        return say(b"?");
+        return no_question();
     }
     let n = held.length;
     reply(&line[0..n])

@@ -136,6 +136,11 @@ pub fn value_exists(value: Value) -> bool
     match value {
         Value::Date(date) => date_exists(date),
         Value::Time(time) => time_exists(time),
-        Value::DateTime(date, time) => date_exists(date) && time_exists(time),
+        Value::DateTime(date, time) => {
+            if !date_exists(date) {
+                return false;
+            }
+            time_exists(time)
+        }
     }
 }

@@ -224,5 +224,7 @@ pub fn in_type(t: Type, value: Value) -> bool
 pub fn holds(t: Type, value: Value) -> bool
     ensures { λ r. ⌜ r ≡ holdsOf t value ⌝ }
 {
-    value_exists(value) && in_type(t, value)
+    let exists = value_exists(value);
+    let inside = in_type(t, value);
+    exists && inside
 }

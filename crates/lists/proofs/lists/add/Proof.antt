@@ -17,11 +17,11 @@ returns-2 c =
       le-ltb 0 (c .before .before .before .before .args .pair .setting) (omega arith),
     )
 
-mul-if3 : tie.Need-mul-if3
-mul-if3 c = search needs
+mul-before : tie.Need-mul-before
+mul-before c = search needs
 
-array-read-if3 : tie.Need-array-read-if3
-array-read-if3 c = search needs
+array-read-before : tie.Need-array-read-before
+array-read-before c = search needs
 
 returns-3 : tie.Need-returns-3
 unfolding addPair
@@ -53,8 +53,8 @@ add-spec =
     (tie.spec
     returns
     returns-2
-    mul-if3
-    array-read-if3
+    mul-before
+    array-read-before
     returns-3
     mul-numbers
     array-write-numbers

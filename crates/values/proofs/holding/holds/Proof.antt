@@ -1,3 +1,4 @@
+-- `holding::holds` meets its contract: what exists and is in the type.
 use borrow.Author.Needs.{needs}
 use Rattle.values.specs.Holding.{holdsOf}
 use Rattle.values.proofs.holding.holds.Statement.{statement}
@@ -11,11 +12,11 @@ in-type-requires c κs = search needs
 
 returns : tie.Need-returns
 unfolding holdsOf
-returns c = simp (← c .before .before .value-exists .ensures, c .before .if1 .taken, c .in-type .ensures)
+returns c = simp (← c .before .before .value-exists .ensures, c .if1 .taken, c .before .in-type .ensures)
 
 returns-2 : tie.Need-returns-2
 unfolding holdsOf
-returns-2 c = simp (← c .before .value-exists .ensures, c .if1 .left)
+returns-2 c = simp (← c .before .before .value-exists .ensures, c .if1 .left)
 
 pub holds-spec : {M : Type 1} → statement M
 holds-spec = tie.close (tie.spec value-exists-requires in-type-requires returns returns-2)
