@@ -117,6 +117,7 @@ pub fn has_place(limits: Limits, date: bool, time: bool) -> bool
     either(every_year(window), date) && either(hour24, time)
 }
 
+// Whether there is a date.
 fn has_date(parts: Parts) -> bool
     ensures { λ r. ⌜ r ≡ dated parts ⌝ }
 {
@@ -127,6 +128,7 @@ fn has_date(parts: Parts) -> bool
     }
 }
 
+// Whether there is a time.
 fn has_time(parts: Parts) -> bool
     ensures { λ r. ⌜ r ≡ timed parts ⌝ }
 {

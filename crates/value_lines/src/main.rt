@@ -41,17 +41,19 @@ fn semicolon(text: &[u8], from: usize) -> usize
     text.len()
 }
 
-// Limits without hour 24, or with a window of years.
+// Limits with a window of years, and whether hour 24 is allowed.
 fn years(lowest: i32, highest: i32, hour24: bool) -> Choice {
     let window = Window::Within(Year::of(lowest), Year::of(highest));
     Choice::Limits(Limits { window, hour24 })
 }
 
+// Limits without a window.
 fn any_year(hour24: bool) -> Choice {
     let window = Window::Every;
     Choice::Limits(Limits { window, hour24 })
 }
 
+// The menu.
 fn limits_of(octet: u8) -> Choice {
     match octet {
         b'0' => any_year(true),
@@ -83,6 +85,7 @@ fn no_question() {
     write(b"?\n")
 }
 
+// The reply with a number alone.
 fn number_reply(number: u32) {
     let octets = [digit(number), b'\n'];
     write(&octets)
@@ -160,6 +163,7 @@ fn rows_of(a: Type, b: Type) {
     write(&octets)
 }
 
+// The reply on the rows of a type and a second type's text.
 fn second_rows(a: Type, settings: &[u8]) {
     let read = values::read_type(settings, Limits::NONE);
     match read {
@@ -169,6 +173,7 @@ fn second_rows(a: Type, settings: &[u8]) {
     }
 }
 
+// The reply on the rows of two types' texts.
 fn rows_reply(first: &[u8], second: &[u8]) {
     let read = values::read_type(first, Limits::NONE);
     match read {
@@ -247,6 +252,7 @@ fn accept(line: &mut [u8], held: Held, octet: u8) -> Held
     put(line, held, octet)
 }
 
+// All octets of a read.
 fn take(octets: &[u8], line: &mut [u8], start: Held) -> Held
     requires { ⌜ start .length ≤ length (now line) ⌝ }
     ensures { λ r. ⌜ r .length ≤ length (now (line .exit)) ⌝ }
@@ -266,6 +272,7 @@ struct Turn {
     held: Held,
 }
 
+// One read of the input.
 fn read_some(line: &mut [u8], held: Held) -> Turn
     requires { ⌜ held .length ≤ length (now line) ⌝ }
     ensures { λ r. ⌜ r .held .length ≤ length (now (line .exit)) ⌝ }

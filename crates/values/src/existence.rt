@@ -8,7 +8,7 @@ use texts::Time;
 use texts::Value;
 use texts::Zone;
 
-// The fields of a clock; one that it does not show is 0.
+// The hours of a clock. Of its fields, one that it does not show is 0.
 pub(crate) fn hours(clock: Clock) -> u32
     ensures { λ r. ⌜ r ≡ hoursOf clock ⌝ }
 {
@@ -19,6 +19,7 @@ pub(crate) fn hours(clock: Clock) -> u32
     }
 }
 
+// The minutes.
 pub(crate) fn minutes(clock: Clock) -> u32
     ensures { λ r. ⌜ r ≡ minutesOf clock ⌝ }
 {
@@ -29,6 +30,7 @@ pub(crate) fn minutes(clock: Clock) -> u32
     }
 }
 
+// The seconds.
 pub(crate) fn seconds(clock: Clock) -> u32
     ensures { λ r. ⌜ r ≡ secondsOf clock ⌝ }
 {
@@ -103,6 +105,7 @@ fn difference_exists(difference: Difference) -> bool
     true
 }
 
+// Whether there is such a zone: only a difference can be missing.
 fn zone_exists(zone: Zone) -> bool
     ensures { λ r. ⌜ r ≡ existsZone zone ⌝ }
 {

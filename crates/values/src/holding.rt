@@ -45,6 +45,7 @@ fn date_form(date: Date) -> DateForm
     }
 }
 
+// The form of a clock.
 fn clock_form(clock: Clock) -> ClockForm
     ensures { λ r. ⌜ r ≡ clockForm clock ⌝ }
 {
@@ -55,6 +56,7 @@ fn clock_form(clock: Clock) -> ClockForm
     }
 }
 
+// The form of a zone.
 fn zone_form(zone: Zone) -> ZoneForm
     ensures { λ r. ⌜ r ≡ zoneForm zone ⌝ }
 {
@@ -78,13 +80,14 @@ fn time_form(time: Time) -> TimeForm
     }
 }
 
-// Whether two forms are one.
+// Whether two forms of a date are one.
 fn same_date_form(a: DateForm, b: DateForm) -> bool
     ensures { λ r. ⌜ r ≡ sameDateForm a b ⌝ }
 {
     date_number(a) == date_number(b)
 }
 
+// Whether two forms of a time are one, the fraction digits included.
 fn same_time_form(a: TimeForm, b: TimeForm) -> bool
     ensures { λ r. ⌜ r ≡ sameTimeForm a b ⌝ }
 {
@@ -129,25 +132,28 @@ fn named(name: bool, lowest: i32, highest: i32, year: Year) -> bool
     name && within(Year::of(lowest), Year::of(highest), year)
 }
 
-// Whether a year is of a Year setting that the type names.
+// Whether a year is of a Year setting without a sign that the type names.
 fn in_plain(names: PlainYears, year: Year) -> bool
     ensures { λ r. ⌜ r ≡ inPlain names (astronomicalOf year) ⌝ }
 {
     named(names.basic, 1582, 9999, year) || named(names.proleptic, 0, 1581, year)
 }
 
+// Whether a year has five digits, where the type names L5.
 fn five_digits(name: bool, year: Year) -> bool
     ensures { λ r. ⌜ r ≡ name && inFive (astronomicalOf year) ⌝ }
 {
     named(name, -99999, -10000, year) || named(name, 10000, 99999, year)
 }
 
+// Whether a year is of a Year setting with a sign that the type names.
 fn in_signed(names: SignedYears, year: Year) -> bool
     ensures { λ r. ⌜ r ≡ inSigned names (astronomicalOf year) ⌝ }
 {
     named(names.negative, -9999, -1, year) || five_digits(names.five, year)
 }
 
+// Whether a year is of a Year setting that the type names.
 fn in_years(years: Years, year: Year) -> bool
     ensures { λ r. ⌜ r ≡ inYears years (astronomicalOf year) ⌝ }
 {

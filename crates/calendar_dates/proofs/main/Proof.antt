@@ -1,3 +1,4 @@
+-- `main` meets its contract.
 use Prim.Native.Nat.{_≤_, _-_}
 use borrow.Author.Needs.{needs}
 use Rattle.calendar_dates.proofs.main.Statement.{statement}

@@ -1,3 +1,4 @@
+-- `print_form` meets its contract.
 use Prim.Native.Nat.{_≤_, _*_, _-_}
 use mathlib.Core.Logic.{⊎-elim}
 use native.Mathlib.Omega.{arith}

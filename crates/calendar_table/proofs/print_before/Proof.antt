@@ -1,3 +1,4 @@
+-- `print_before` meets its contract.
 use borrow.Author.Needs.{needs}
 use Rattle.calendar_table.proofs.print_before.Statement.{statement}
 use Rattle.calendar_table.proofs.print_before.Tie as tie

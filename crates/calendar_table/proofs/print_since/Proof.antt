@@ -1,3 +1,4 @@
+-- `print_since` meets its contract.
 use Prim.Native.Nat.{_-_}
 use borrow.Author.Needs.{needs}
 use Rattle.calendar_table.proofs.print_since.Statement.{statement}

@@ -1,3 +1,4 @@
+-- `dates::date_exists` meets its contract.
 use borrow.Author.Needs.{needs}
 use Rattle.calendar.proofs.dates.date_exists.Statement.{statement}
 use Rattle.calendar.proofs.dates.date_exists.Tie as tie

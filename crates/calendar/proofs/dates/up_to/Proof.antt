@@ -1,3 +1,4 @@
+-- `dates::up_to` meets its contract.
 use borrow.Author.Tests.{le-leb, lt-leb}
 use Rattle.calendar.specs.Dates.{upTo}
 use Rattle.calendar.proofs.dates.up_to.Statement.{statement}

@@ -1,3 +1,4 @@
+-- `exported::anafzir_leap_year` meets its contract.
 use mathlib.Core.Path.{_≡_, ap, _∙_}
 use borrow.Author.Needs.{needs}
 use mir.Syntax.{w32}

@@ -1,3 +1,4 @@
+-- `exported::anafzir_year_length` meets its contract.
 use mathlib.Core.Path.{ap, _∙_}
 use borrow.Author.Needs.{needs}
 use mir.Syntax.{w32}

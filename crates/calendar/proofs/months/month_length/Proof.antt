@@ -1,3 +1,4 @@
+-- `months::month_length` meets its contract.
 use mathlib.Core.Path.{sym}
 use mathlib.Core.Logic.{⊎-elim}
 use Prim.Native.Nat.{_≤_}

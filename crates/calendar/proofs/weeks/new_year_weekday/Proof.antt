@@ -1,3 +1,4 @@
+-- `weeks::new_year_weekday` meets its contract.
 use borrow.Author.Needs.{needs}
 use Rattle.calendar.proofs.Laws.Days.{daysOf}
 use Rattle.calendar.proofs.Laws.Numbers.{weekday-number}

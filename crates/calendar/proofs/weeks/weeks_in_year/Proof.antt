@@ -1,3 +1,4 @@
+-- `weeks::weeks_in_year` meets its contract.
 use borrow.Author.Needs.{needs}
 use Rattle.calendar.proofs.weeks.weeks_in_year.Statement.{statement}
 use Rattle.calendar.proofs.weeks.weeks_in_year.Tie as tie

@@ -1,3 +1,4 @@
+-- `years::year_length` meets its contract.
 use borrow.Author.Needs.{needs}
 use Rattle.calendar.specs.Years.{yearLengthOf}
 use Rattle.calendar.proofs.years.year_length.Statement.{statement}

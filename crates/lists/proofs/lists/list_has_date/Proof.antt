@@ -1,3 +1,4 @@
+-- `lists::list_has_date` meets its contract.
 use borrow.Author.Needs.{needs}
 use Rattle.lists.specs.Lists.{datedList}
 use Rattle.lists.proofs.lists.list_has_date.Statement.{statement}

@@ -1,3 +1,4 @@
+-- `lists::list_has_time` meets its contract.
 use borrow.Author.Needs.{needs}
 use Rattle.lists.specs.Lists.{timedList}
 use Rattle.lists.proofs.lists.list_has_time.Statement.{statement}

@@ -1,3 +1,4 @@
+-- `lists::present_if` meets its contract.
 use Rattle.lists.proofs.lists.present_if.Statement.{statement}
 use Rattle.lists.proofs.lists.present_if.Tie as tie
 

@@ -1,3 +1,4 @@
+-- `lists::read_list` meets its contract.
 use mathlib.Core.Path.{sym, _∙_}
 use borrow.Author.Needs.{needs}
 use Rattle.lists.specs.Lists.{completed, listOf}

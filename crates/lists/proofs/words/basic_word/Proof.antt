@@ -1,3 +1,4 @@
+-- `words::basic_word` meets its contract.
 use mathlib.Core.Path.{refl, sym, _∙_}
 use borrow.Author.Needs.{needs}
 use Rattle.lists.specs.Octets.{bytes, eqList}

@@ -1,3 +1,4 @@
+-- `words::read_pair` meets its contract.
 use borrow.Author.Needs.{needs}
 use borrow.Author.Tests.{eq-eqb, ne-eqb}
 use Rattle.lists.specs.Words.{pairOf}

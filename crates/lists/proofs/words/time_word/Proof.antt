@@ -1,3 +1,4 @@
+-- `words::time_word` meets its contract.
 use borrow.Author.Needs.{needs}
 use borrow.Author.Tests.{eq-eqb, ne-eqb}
 use Rattle.lists.proofs.words.time_word.Statement.{statement}

@@ -1,3 +1,4 @@
+-- `canonical::text_into` meets its contract.
 use native.Mathlib.Omega.{arith}
 use Rattle.printing.proofs.Laws.Canonical.{many-digits, short-buffer, not-printed, printed}
 use borrow.Author.Needs.{needs}

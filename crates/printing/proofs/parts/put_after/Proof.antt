@@ -1,3 +1,4 @@
+-- `parts::put_after` meets its contract.
 use native.Mathlib.Omega.{arith}
 use Rattle.texts.specs.Dates.{putAfter}
 use Rattle.printing.proofs.Laws.Stores.{put-none, put-then}

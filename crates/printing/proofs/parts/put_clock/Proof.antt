@@ -1,3 +1,4 @@
+-- `parts::put_clock` meets its contract.
 use native.Mathlib.Omega.{arith}
 use Rattle.texts.specs.Times.{putClock}
 use Rattle.printing.proofs.Laws.Stores.{put-then}

@@ -1,3 +1,4 @@
+-- `parts::put_date` meets its contract.
 use native.Mathlib.Omega.{arith}
 use Rattle.texts.specs.Dates.{putDate}
 use Rattle.printing.proofs.Laws.Stores.{put-then}

@@ -1,3 +1,4 @@
+-- `parts::put_fraction` meets its contract.
 use native.Mathlib.Omega.{arith}
 use borrow.Author.Tests.{eq-eqb, ne-eqb}
 use Rattle.texts.specs.Times.{putFraction}

@@ -1,3 +1,4 @@
+-- `parts::put_time` meets its contract.
 use native.Mathlib.Omega.{arith}
 use Rattle.texts.specs.Times.{putTime}
 use Rattle.printing.proofs.Laws.Stores.{put-then}

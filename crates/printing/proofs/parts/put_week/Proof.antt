@@ -1,3 +1,4 @@
+-- `parts::put_week` meets its contract.
 use native.Mathlib.Omega.{arith}
 use lib.ListN.{length-set}
 use Rattle.printing.proofs.Laws.Stores.{put-octet}

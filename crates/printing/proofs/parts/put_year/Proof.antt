@@ -1,3 +1,4 @@
+-- `parts::put_year` meets its contract.
 use native.Mathlib.Omega.{arith}
 use borrow.Author.Tests.{lt-ltb, le-ltb}
 use Rattle.printing.proofs.Laws.Canonical.{text-before, text-since}

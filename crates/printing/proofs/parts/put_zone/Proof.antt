@@ -1,3 +1,4 @@
+-- `parts::put_zone` meets its contract.
 use native.Mathlib.Omega.{arith}
 use Rattle.texts.specs.Times.{putZone}
 use Rattle.printing.proofs.Laws.Stores.{put-none, put-octet}

@@ -1,3 +1,4 @@
+-- `parts::year_digits` meets its contract.
 use native.Mathlib.Omega.{arith}
 use Rattle.texts.proofs.Laws.Sizes.{Counting, count-start, count-more, count-end}
 use borrow.Author.Needs.{needs}

@@ -1,3 +1,4 @@
+-- `rows::row_of` meets its contract.
 use borrow.Author.Needs.{needs}
 use Rattle.settings.proofs.rows.row_of.Statement.{statement}
 use Rattle.settings.proofs.rows.row_of.Tie as tie

@@ -1,3 +1,4 @@
+-- `rows::same_row` meets its contract.
 use borrow.Author.Tests.{eq-eqb, ne-eqb}
 use Rattle.settings.specs.Rows.{sameRow}
 use Rattle.settings.proofs.rows.same_row.Statement.{statement}

@@ -1,3 +1,4 @@
+-- `rows::same_rows` meets its contract.
 use borrow.Author.Needs.{needs}
 use Rattle.settings.specs.Rows.{sameRows}
 use Rattle.settings.proofs.rows.same_rows.Statement.{statement}

@@ -1,3 +1,4 @@
+-- `rows::time_number` meets its contract.
 use borrow.Author.Needs.{needs}
 use borrow.Author.Tests.{eq-eqb, ne-eqb}
 use Rattle.settings.specs.Rows.{timeNumber}

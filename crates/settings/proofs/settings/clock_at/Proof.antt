@@ -1,3 +1,4 @@
+-- `settings::clock_at` meets its contract.
 use borrow.Author.Tests.{ne-eqb}
 use Rattle.settings.specs.Settings.{clockAt}
 use Rattle.settings.proofs.settings.clock_at.Statement.{statement}

@@ -1,3 +1,4 @@
+-- `settings::date_at` meets its contract.
 use borrow.Author.Tests.{ne-eqb}
 use Rattle.settings.specs.Settings.{dateAt}
 use Rattle.settings.proofs.settings.date_at.Statement.{statement}

@@ -1,3 +1,4 @@
+-- `settings::zone_at` meets its contract.
 use borrow.Author.Tests.{ne-eqb}
 use Rattle.settings.specs.Settings.{zoneAt}
 use Rattle.settings.proofs.settings.zone_at.Statement.{statement}

@@ -1,3 +1,4 @@
+-- `type_text::is_usable` meets its contract.
 use borrow.Author.Needs.{needs}
 use borrow.Author.Tests.{not-true, not-false}
 use Rattle.lists.specs.Lists.{datedList, timedList}

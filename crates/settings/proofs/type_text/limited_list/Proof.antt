@@ -1,3 +1,4 @@
+-- `type_text::limited_list` meets its contract.
 use borrow.Author.Needs.{needs}
 use Rattle.settings.proofs.type_text.limited_list.Statement.{statement}
 use Rattle.settings.proofs.type_text.limited_list.Tie as tie

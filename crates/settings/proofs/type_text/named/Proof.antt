@@ -1,3 +1,4 @@
+-- `type_text::named` meets its contract.
 use mathlib.Core.Bool.{or-false}
 use borrow.Author.Tests.{eq-eqb, ne-eqb}
 use Rattle.settings.specs.TypeTexts.{member}

@@ -1,3 +1,4 @@
+-- `type_text::read_type` meets its contract.
 use mathlib.Core.Path.{sym, _∙_}
 use borrow.Author.Needs.{needs}
 use Rattle.settings.specs.TypeTexts.{typeOf}

@@ -1,3 +1,4 @@
+-- `type_text::same_but_year` meets its contract.
 use borrow.Author.Needs.{needs}
 use borrow.Author.Tests.{eq-eqb, ne-eqb}
 use Rattle.settings.specs.TypeTexts.{sameButYear}

@@ -1,3 +1,4 @@
+-- `types::basic_ymd` meets its contract.
 use borrow.Author.Needs.{needs}
 use borrow.Author.Tests.{eq-eqb, ne-eqb}
 use Rattle.settings.proofs.types.basic_ymd.Statement.{statement}

@@ -1,3 +1,4 @@
+-- `types::fits` meets its contract.
 use borrow.Author.Needs.{needs}
 use Rattle.settings.proofs.types.fits.Statement.{statement}
 use Rattle.settings.proofs.types.fits.Tie as tie

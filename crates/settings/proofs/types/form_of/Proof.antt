@@ -1,3 +1,4 @@
+-- `types::form_of` meets its contract.
 use borrow.Author.Needs.{needs}
 use Rattle.settings.proofs.types.form_of.Statement.{statement}
 use Rattle.settings.proofs.types.form_of.Tie as tie

@@ -1,3 +1,4 @@
+-- `types::has_place` meets its contract.
 use borrow.Author.Needs.{needs}
 use Rattle.settings.specs.Types.{placed}
 use Rattle.settings.proofs.types.has_place.Statement.{statement}

@@ -1,3 +1,4 @@
+-- `types::local_hms` meets its contract.
 use borrow.Author.Needs.{needs}
 use borrow.Author.Tests.{eq-eqb, ne-eqb}
 use Rattle.settings.proofs.types.local_hms.Statement.{statement}

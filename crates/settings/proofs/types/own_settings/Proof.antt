@@ -1,3 +1,4 @@
+-- `types::own_settings` meets its contract.
 use borrow.Author.Needs.{needs}
 use Rattle.settings.proofs.types.own_settings.Statement.{statement}
 use Rattle.settings.proofs.types.own_settings.Tie as tie

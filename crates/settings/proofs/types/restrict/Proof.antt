@@ -1,3 +1,4 @@
+-- `types::restrict` meets its contract.
 use borrow.Author.Needs.{needs}
 use Rattle.settings.proofs.types.restrict.Statement.{statement}
 use Rattle.settings.proofs.types.restrict.Tie as tie

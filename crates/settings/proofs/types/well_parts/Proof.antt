@@ -1,3 +1,4 @@
+-- `types::well_parts` meets its contract.
 use borrow.Author.Needs.{needs}
 use Rattle.settings.proofs.types.well_parts.Statement.{statement}
 use Rattle.settings.proofs.types.well_parts.Tie as tie

@@ -1,3 +1,4 @@
+-- `existence::clock_exists` meets its contract.
 use borrow.Author.Tests.{eq-eqb, ne-eqb, le-leb, lt-leb}
 use Rattle.values.specs.Existence.{existsClock}
 use Rattle.values.proofs.existence.clock_exists.Statement.{statement}

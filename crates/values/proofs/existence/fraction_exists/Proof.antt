@@ -1,3 +1,4 @@
+-- `existence::fraction_exists` meets its contract.
 use borrow.Author.Tests.{le-leb, lt-leb}
 use borrow.Author.Needs.{needs}
 use Rattle.values.specs.Existence.{existsFraction}

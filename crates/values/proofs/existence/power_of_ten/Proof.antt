@@ -1,3 +1,4 @@
+-- `existence::power_of_ten` meets its contract.
 use mathlib.Core.Path.{_≡_, ap, _∙_}
 use Prim.Native.Nat.{ℕ, _*_, _-_, _≤_, _^_}
 use native.Mathlib.Nat.{pow-suc, pow-le-pow-right, le-antisymm}

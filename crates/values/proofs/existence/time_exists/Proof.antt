@@ -1,3 +1,4 @@
+-- `existence::time_exists` meets its contract.
 use mathlib.Core.Path.{_≡_}
 use mathlib.Core.Bool.{_&&_}
 use borrow.Author.Tests.{not-true, not-false}

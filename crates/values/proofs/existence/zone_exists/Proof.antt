@@ -1,3 +1,4 @@
+-- `existence::zone_exists` meets its contract.
 use borrow.Author.Needs.{needs}
 use Rattle.values.proofs.existence.zone_exists.Statement.{statement}
 use Rattle.values.proofs.existence.zone_exists.Tie as tie

@@ -1,3 +1,4 @@
+-- `holding::date_in` meets its contract.
 use borrow.Author.Tests.{not-true, not-false}
 use borrow.Author.Needs.{needs}
 use Rattle.values.specs.Holding.{admitsDate}

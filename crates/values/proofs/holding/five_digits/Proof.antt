@@ -1,3 +1,4 @@
+-- `holding::five_digits` meets its contract.
 use mathlib.Core.Bool.{and-or-distrib-left}
 use borrow.Author.Needs.{needs}
 use Rattle.values.proofs.holding.five_digits.Statement.{statement}

@@ -1,3 +1,4 @@
+-- `holding::in_plain` meets its contract.
 use borrow.Author.Needs.{needs}
 use Rattle.values.proofs.holding.in_plain.Statement.{statement}
 use Rattle.values.proofs.holding.in_plain.Tie as tie

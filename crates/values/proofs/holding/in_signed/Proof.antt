@@ -1,3 +1,4 @@
+-- `holding::in_signed` meets its contract.
 use borrow.Author.Needs.{needs}
 use Rattle.values.proofs.holding.in_signed.Statement.{statement}
 use Rattle.values.proofs.holding.in_signed.Tie as tie

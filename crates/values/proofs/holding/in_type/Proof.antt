@@ -1,3 +1,4 @@
+-- `holding::in_type` meets its contract.
 use borrow.Author.Needs.{needs}
 use Rattle.values.specs.Holding.{inType}
 use Rattle.values.proofs.Laws.Holding.{date-time-in}

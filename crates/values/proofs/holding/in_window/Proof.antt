@@ -1,3 +1,4 @@
+-- `holding::in_window` meets its contract.
 use borrow.Author.Needs.{needs}
 use Rattle.values.proofs.holding.in_window.Statement.{statement}
 use Rattle.values.proofs.holding.in_window.Tie as tie

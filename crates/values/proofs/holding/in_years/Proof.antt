@@ -1,3 +1,4 @@
+-- `holding::in_years` meets its contract.
 use borrow.Author.Needs.{needs}
 use Rattle.values.proofs.holding.in_years.Statement.{statement}
 use Rattle.values.proofs.holding.in_years.Tie as tie

@@ -1,3 +1,4 @@
+-- `holding::same_date_form` meets its contract.
 use borrow.Author.Needs.{needs}
 use Rattle.values.specs.Forms.{sameDateForm}
 use Rattle.values.proofs.holding.same_date_form.Statement.{statement}

@@ -1,3 +1,4 @@
+-- `holding::same_time_form` meets its contract.
 use borrow.Author.Tests.{eq-eqb, ne-eqb}
 use borrow.Author.Needs.{needs}
 use Rattle.values.specs.Forms.{sameTimeForm}

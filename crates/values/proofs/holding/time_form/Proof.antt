@@ -1,3 +1,4 @@
+-- `holding::time_form` meets its contract.
 use borrow.Author.Needs.{needs}
 use Rattle.values.proofs.holding.time_form.Statement.{statement}
 use Rattle.values.proofs.holding.time_form.Tie as tie

@@ -1,3 +1,4 @@
+-- `holding::within` meets its contract.
 use borrow.Author.Needs.{needs}
 use Rattle.values.specs.Holding.{between}
 use Rattle.values.proofs.holding.within.Statement.{statement}

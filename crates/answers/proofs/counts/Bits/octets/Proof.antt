@@ -1,3 +1,4 @@
+-- `counts::Bits::octets` meets its contract.
 use mathlib.Core.Path.{refl}
 use borrow.Author.Needs.{needs}
 use Rattle.answers.specs.Counts.{octetsFor}

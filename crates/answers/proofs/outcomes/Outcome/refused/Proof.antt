@@ -1,3 +1,4 @@
+-- `outcomes::Outcome::refused` meets its contract.
 use borrow.Author.Needs.{needs}
 use Rattle.answers.proofs.outcomes.Outcome.refused.Statement.{statement}
 use Rattle.answers.proofs.outcomes.Outcome.refused.Tie as tie

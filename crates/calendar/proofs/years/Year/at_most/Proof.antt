@@ -1,3 +1,4 @@
+-- `years::Year::at_most` meets its contract.
 use mathlib.Core.Path.{sym}
 use Rattle.calendar.proofs.Laws.Years.{order}
 use Rattle.calendar.proofs.years.Year.at_most.Statement.{statement}

@@ -1,3 +1,4 @@
+-- `years::Year::before_zero` meets its contract.
 use mathlib.Core.Path.{sym}
 use Prim.Native.Nat.{_-_}
 use native.Mathlib.Omega.{arith}

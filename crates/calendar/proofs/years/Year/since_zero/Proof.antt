@@ -1,3 +1,4 @@
+-- `years::Year::since_zero` meets its contract.
 use mathlib.Core.Path.{refl}
 use borrow.Author.Needs.{needs}
 use Rattle.calendar.proofs.Laws.Years.{from-zero}

@@ -1,3 +1,4 @@
+-- `types::Type::well_formed` meets its contract.
 use borrow.Author.Needs.{needs}
 use Rattle.settings.specs.Types.{wellFormed}
 use Rattle.settings.proofs.types.Type.well_formed.Statement.{statement}
