@@ -13,6 +13,11 @@ use Rattle.values.specs.declared.admission.Admission.{Admission}
 use Rattle.values.specs.Existence.{existsValue}
 use Rattle.values.specs.Holding.{inType}
 
+-- The number of what a text gives at a form: 0 for a value, and 3 where it is not of the form.
+abbrev pub textNumber : TextRead → ℕ
+textNumber (TextRead.Value v s) = 0
+textNumber TextRead.NotOfForm = numberOf Refusal.Form
+
 -- The number of each answer: 0 for a value.
 abbrev pub admissionNumber : Admission → ℕ
 admissionNumber (Admission.Value v) = 0

@@ -12,6 +12,7 @@ use Rattle.calendar.proofs.Laws.Bools.{both}
 use Rattle.calendar.proofs.Laws.Dates.{InRange, in-range}
 use Rattle.calendar.specs.Dates.{existsOf}
 use Rattle.calendar.specs.declared.dates.Date.{Date}
+use Rattle.answers.specs.Refusals.{numberOf}
 use Rattle.answers.specs.declared.refusals.Refusal.{Refusal}
 use Rattle.printing.proofs.Laws.Canonical.{can-print, text-front, text-length, text-size}
 use Rattle.printing.specs.Canonical.{bufferWith, capacity, lengthIn, printable}
@@ -35,7 +36,7 @@ use Rattle.texts.specs.declared.values.Value.{Value}
 use Rattle.texts.specs.declared.values.Zone.{Zone}
 use Rattle.values.proofs.Laws.Existence.{ZoneInRange, time-range}
 use Rattle.values.proofs.Laws.Holding.{date-admitted, held, holds-both, in-type, years-range}
-use Rattle.values.specs.Admission.{admitted, judged, judgedRead}
+use Rattle.values.specs.Admission.{admitted, judged, judgedRead, textNumber}
 use Rattle.values.specs.Existence.{existsTime, existsValue, hoursOf, minutesOf, secondsOf}
 use Rattle.values.specs.Holding.{admits, admitsDate, admitsTime, between, holdsOf, inType}
 use Rattle.values.specs.declared.admission.Admission.{Admission}
@@ -161,6 +162,15 @@ admitted-held t l v = go (wellFormed t) refl (readOf (formOf t) l) refl where
       (x, p .0, s, q .0 ∙ ap (render s) (p .1))
   go true x TextRead.NotOfForm y g = absurd (let z : _≡_ {A = ℕ} 0 1 = cc in omega arith)
   go false x r y g = absurd (let z : _≡_ {A = ℕ} 0 1 = cc in omega arith)
+
+-- Where a text's number at the type's form is 3, that is the answer, whatever else there is to say of it.
+pub form-first : (t : Ty) (l : List ℕ) → wellFormed t ≡ true → textNumber (readOf (formOf t) l) ≡ numberOf Refusal.Form →
+    admitted t l ≡ Admission.Refused Refusal.Form
+unfolding admitted
+form-first t l w = go (readOf (formOf t) l) where
+  go : (r : TextRead) → textNumber r ≡ numberOf Refusal.Form → cond (wellFormed t) (judgedRead t r) (Admission.Refused Refusal.Settings) ≡ Admission.Refused Refusal.Form
+  go (TextRead.Value v s) e = absurd (let z : _≡_ {A = ℕ} 0 1 = omega arith in omega arith)
+  go TextRead.NotOfForm e = rw w
 
 -- ---- the canonical text of what exists, in a buffer that has room for it
 
