@@ -1,4 +1,4 @@
--- The laws of types.
+-- The laws of the texts of types.
 pub mod TypeTexts
 pub mod CheckedTypes
 pub mod Joining

@@ -1,6 +1,3 @@
--- What a reader must believe of types, in the order of the paper's "What a type is".
-pub mod Settings
-pub mod Types
-pub mod Rows
+-- What a reader must believe of the texts of types, in the order of the paper's "What a type is".
 pub mod TypeTexts
 pub mod Written

@@ -5,15 +5,15 @@ use mathlib.Core.List.{List, [], _∷_, map}
 use lib.Dec.{eqb, leb}
 use lib.ListN.{length}
 use Rattle.lists.specs.Octets.{bytes, eqList}
-use Rattle.settings.specs.Settings.{dateAt, clockAt, zoneAt}
-use Rattle.settings.specs.Types.{listed, unlimitedDate, unlimitedTime, DATE, TIME-OF-DAY, DATE-TIME, placed, limitedTo}
+use Rattle.types.specs.Numbers.{dateAt, clockAt, zoneAt}
+use Rattle.types.specs.Types.{listed, unlimitedDate, unlimitedTime, DATE, TIME-OF-DAY, DATE-TIME, placed, limitedTo}
 use Rattle.lists.specs.Lists.{splitOn, basicIn, dateIn, yearIn, timeIn, zoneIn, datedList, timedList, listOf}
 use Rattle.texts.specs.declared.forms.TimeForm.{TimeForm}
-use Rattle.settings.specs.declared.types.Years.{Years}
-use Rattle.settings.specs.declared.types.Parts.{Parts}
-use Rattle.settings.specs.declared.types.«Type».{«Type»}
-use Rattle.settings.specs.declared.types.Limits.{Limits}
-use Rattle.settings.specs.declared.types.TypeRead.{TypeRead}
+use Rattle.types.specs.declared.types.Years.{Years}
+use Rattle.types.specs.declared.types.Parts.{Parts}
+use Rattle.types.specs.declared.types.«Type».{«Type»}
+use Rattle.types.specs.declared.types.Limits.{Limits}
+use Rattle.types.specs.declared.types.TypeRead.{TypeRead}
 use Rattle.lists.specs.declared.lists.Settings.{Settings}
 
 -- "A type is one settings list, or two with `|` between them."

@@ -1,18 +1,8 @@
 ghost use mathlib.Core.Path.{_≡_};
 ghost use mathlib.Core.List.{[], _∷_};
-ghost use Rattle.settings.specs.Types.{limitedTo};
+ghost use Rattle.types.specs.Types.{limitedTo};
 ghost use Rattle.lists.specs.Lists.{yearIn};
 ghost use Rattle.settings.specs.TypeTexts.{joined, listsOf, listType, member, sameButYear, timeAt, typeOf, usable, yearFamily, yearsOf};
-use crate::settings::clock_at;
-use crate::settings::date_at;
-use crate::settings::zone_at;
-use crate::types::Limits;
-use crate::types::PlainYears;
-use crate::types::SignedYears;
-use crate::types::Type;
-use crate::types::TypeRead;
-use crate::types::Years;
-use crate::types::has_place;
 use lists::lists::Settings;
 use lists::lists::find;
 use lists::lists::list_has_date;
@@ -25,6 +15,16 @@ use lists::words::YEAR;
 use lists::words::ZONE;
 use lists::words::same;
 use texts::TimeForm;
+use types::numbers::clock_at;
+use types::numbers::date_at;
+use types::numbers::zone_at;
+use types::types::Limits;
+use types::types::PlainYears;
+use types::types::SignedYears;
+use types::types::Type;
+use types::types::TypeRead;
+use types::types::Years;
+use types::types::has_place;
 
 // Whether one of two Years has this number.
 fn named(a: u32, b: u32, number: u32) -> bool

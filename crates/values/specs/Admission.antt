@@ -7,8 +7,8 @@ use Rattle.answers.specs.Refusals.{numberOf}
 use Rattle.texts.specs.declared.values.Value.{Value}
 use Rattle.texts.specs.declared.texts.TextRead.{TextRead}
 use Rattle.texts.specs.Texts.{readOf}
-use Rattle.settings.specs.declared.types.«Type».{«Type» as Ty}
-use Rattle.settings.specs.Types.{wellFormed, formOf}
+use Rattle.types.specs.declared.types.«Type».{«Type» as Ty}
+use Rattle.types.specs.Types.{wellFormed, formOf}
 use Rattle.values.specs.declared.admission.Admission.{Admission}
 use Rattle.values.specs.Existence.{existsValue}
 use Rattle.values.specs.Holding.{inType}

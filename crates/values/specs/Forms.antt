@@ -4,7 +4,7 @@ use lib.Dec.{eqb}
 use Rattle.texts.specs.declared.forms.DateForm.{DateForm}
 use Rattle.texts.specs.declared.forms.TimeForm.{TimeForm}
 use Rattle.texts.specs.declared.forms.Form.{Form}
-use Rattle.settings.specs.Settings.{dateNumber, clockNumber, zoneNumber}
+use Rattle.types.specs.Numbers.{dateNumber, clockNumber, zoneNumber}
 
 -- Whether two forms of a date are one, ..
 unfoldable pub sameDateForm : DateForm → DateForm → Bool

@@ -8,16 +8,16 @@ use Rattle.calendar.specs.declared.years.Year.{Year}
 use Rattle.calendar.specs.declared.dates.Date.{Date}
 use Rattle.texts.specs.declared.values.Time.{Time}
 use Rattle.texts.specs.declared.values.Value.{Value}
-use Rattle.settings.specs.declared.types.PlainYears.{PlainYears}
-use Rattle.settings.specs.declared.types.SignedYears.{SignedYears}
-use Rattle.settings.specs.declared.types.Years.{Years}
-use Rattle.settings.specs.declared.types.Window.{Window}
-use Rattle.settings.specs.declared.types.DateType.{DateType}
-use Rattle.settings.specs.declared.types.TimeType.{TimeType}
-use Rattle.settings.specs.declared.types.Parts.{Parts}
-use Rattle.settings.specs.declared.types.«Type».{«Type» as Ty}
+use Rattle.types.specs.declared.types.PlainYears.{PlainYears}
+use Rattle.types.specs.declared.types.SignedYears.{SignedYears}
+use Rattle.types.specs.declared.types.Years.{Years}
+use Rattle.types.specs.declared.types.Window.{Window}
+use Rattle.types.specs.declared.types.DateType.{DateType}
+use Rattle.types.specs.declared.types.TimeType.{TimeType}
+use Rattle.types.specs.declared.types.Parts.{Parts}
+use Rattle.types.specs.declared.types.«Type».{«Type» as Ty}
 use Rattle.texts.specs.Forms.{yearOf, valueForm}
-use Rattle.settings.specs.Types.{formOf}
+use Rattle.types.specs.Types.{formOf}
 use Rattle.values.specs.Forms.{sameForm}
 use Rattle.values.specs.Existence.{hoursOf, existsValue}
 

@@ -5,9 +5,9 @@ use crate::existence::value_exists;
 use crate::holding::in_type;
 use answers::Refusal;
 use reading::read_text;
-use settings::Type;
 use texts::TextRead;
 use texts::Value;
+use types::Type;
 
 // The value that a text gives under a type, or the refusal.
 pub enum Admission {

@@ -9,15 +9,15 @@ use lib.Dec.{eqb}
 use lib.IntN.{pos}
 use Rattle.calendar.specs.Years.{yearAt}
 use Rattle.lists.specs.Octets.{bytes, eqList}
-use Rattle.settings.specs.Settings.{dateAt, clockAt, zoneAt}
-use Rattle.settings.specs.Types.{typeNumber, placed, limitedTo, noLimits, fractionDigits}
-use Rattle.settings.specs.Rows.{timeNumber, sameRow, sameRows}
+use Rattle.types.specs.Numbers.{dateAt, clockAt, zoneAt}
+use Rattle.types.specs.Types.{typeNumber, placed, limitedTo, noLimits, fractionDigits}
+use Rattle.types.specs.Rows.{timeNumber, sameRow, sameRows}
 use Rattle.lists.specs.Words.{placeFrom, fractionNumber, pairOf}
 use Rattle.lists.specs.Lists.{splitOn, addPair, addPairs, datedList, timedList, complete, completed, listOf}
 use Rattle.settings.specs.TypeTexts.{listsOf, sameButYear, yearFamily, oneRow, equalLists, allOf, distinct, usable, member, yearsOf, timeAt, listType, joined, typeOf}
-use Rattle.settings.specs.declared.types.Window.{Window}
-use Rattle.settings.specs.declared.types.Limits.{Limits}
-use Rattle.settings.specs.declared.types.TypeRead.{TypeRead}
+use Rattle.types.specs.declared.types.Window.{Window}
+use Rattle.types.specs.declared.types.Limits.{Limits}
+use Rattle.types.specs.declared.types.TypeRead.{TypeRead}
 
 from2000 : Limits
 from2000 = record { window = Window.Within (yearAt (pos 2000)) (yearAt (pos 2099)); hour24 = true }

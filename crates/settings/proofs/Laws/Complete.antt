@@ -7,17 +7,17 @@ use native.Mathlib.Omega.{arith}
 use lib.ListN.{length}
 use borrow.Author.Tests.{leb-true}
 use Rattle.lists.specs.Octets.{bytes, eqList}
-use Rattle.settings.specs.Types.{listed, DATE, TIME-OF-DAY, DATE-TIME, everyYear, dated, timed, placed, restricted, limitedTo, noLimits, limitsOf, someYear, fewDigits, wellParts, wellFormed}
+use Rattle.types.specs.Types.{listed, DATE, TIME-OF-DAY, DATE-TIME, everyYear, dated, timed, placed, restricted, limitedTo, noLimits, limitsOf, someYear, fewDigits, wellParts, wellFormed}
 use Rattle.settings.specs.TypeTexts.{allOf, joined, typeOf}
 use Rattle.settings.specs.Written.{YearSetting, basic, dateWords, timeWords, dateTimeWords, namedYears, listsFor, joinWith, typeText, Arranged, end, more}
 use Rattle.texts.specs.declared.forms.DateForm.{DateForm}
 use Rattle.texts.specs.declared.forms.TimeForm.{TimeForm}
-use Rattle.settings.specs.declared.types.TimeType.{TimeType}
-use Rattle.settings.specs.declared.types.Parts.{Parts}
-use Rattle.settings.specs.declared.types.Name.{Name}
-use Rattle.settings.specs.declared.types.«Type».{«Type»}
-use Rattle.settings.specs.declared.types.Limits.{Limits}
-use Rattle.settings.specs.declared.types.TypeRead.{TypeRead}
+use Rattle.types.specs.declared.types.TimeType.{TimeType}
+use Rattle.types.specs.declared.types.Parts.{Parts}
+use Rattle.types.specs.declared.types.Name.{Name}
+use Rattle.types.specs.declared.types.«Type».{«Type»}
+use Rattle.types.specs.declared.types.Limits.{Limits}
+use Rattle.types.specs.declared.types.TypeRead.{TypeRead}
 use Rattle.lists.specs.declared.lists.Settings.{Settings}
 use Rattle.settings.proofs.Laws.Written.{dateList, timeList, dateTimeList, date-list, time-list, date-time-list, basic-words, date-is-word, year-is-word, zone-is-word, time-is-word, ListText, list-text, text-read, some-named, date-joined, time-joined, date-time-joined}
 

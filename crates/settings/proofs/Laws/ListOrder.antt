@@ -6,12 +6,12 @@ use Prim.Native.Nat.{ℕ}
 use lib.Dec.{eqb}
 use borrow.Author.Tests.{eq-eqb, ne-eqb, eqb-true, eqb-false}
 use Rattle.lists.specs.Octets.{bytes}
-use Rattle.settings.specs.Types.{limitedTo}
+use Rattle.types.specs.Types.{limitedTo}
 use Rattle.lists.specs.Lists.{basicIn, dateIn, yearIn, timeIn, zoneIn, listOf}
 use Rattle.settings.specs.TypeTexts.{listsOf, sameButYear, yearFamily, oneRow, equalLists, allOf, distinct, usable, member, yearsOf, listType, joined, typeOf}
 use Rattle.settings.specs.Written.{joinWith}
-use Rattle.settings.specs.declared.types.Limits.{Limits}
-use Rattle.settings.specs.declared.types.TypeRead.{TypeRead}
+use Rattle.types.specs.declared.types.Limits.{Limits}
+use Rattle.types.specs.declared.types.TypeRead.{TypeRead}
 use Rattle.lists.specs.declared.lists.Settings.{Settings}
 use Rattle.settings.proofs.Laws.Joining.{lacks, split-join}
 use Rattle.settings.proofs.Laws.Written.{not-it}

@@ -10,8 +10,8 @@ use lib.Seq.{take-all}
 use borrow.Author.Tests.{lt-leb}
 use Rattle.lists.specs.Lists.{withFirst, splitOn, spanTo, listOf}
 use Rattle.settings.specs.TypeTexts.{listsOf, joined}
-use Rattle.settings.specs.declared.types.Limits.{Limits}
-use Rattle.settings.specs.declared.types.TypeRead.{TypeRead}
+use Rattle.types.specs.declared.types.Limits.{Limits}
+use Rattle.types.specs.declared.types.TypeRead.{TypeRead}
 use Rattle.lists.specs.declared.lists.Settings.{Settings}
 use Rattle.lists.proofs.Laws.Pieces.{span-le, split-one, split-more}
 

@@ -9,16 +9,16 @@ use lib.ListN.{length, getD, set, take, length-set}
 use lib.Seq.{getD-set-same, getD-set-other}
 use borrow.Author.Tests.{leb-true, le-leb, eqb-true, eqb-false, ne-eqb, not-true}
 use Rattle.lists.specs.Octets.{bytes, eqList}
-use Rattle.settings.specs.Types.{DATE, TIME-OF-DAY, DATE-TIME, dated, timed, placed, restricted, limitedTo, someYear, wellParts, ownSettings, wellFormed}
+use Rattle.types.specs.Types.{DATE, TIME-OF-DAY, DATE-TIME, dated, timed, placed, restricted, limitedTo, someYear, wellParts, ownSettings, wellFormed}
 use Rattle.lists.specs.Words.{placeIn, yearWords, clockWords, fractionWords, withDigits, fractionNumber, orElse, pairOf}
 use Rattle.lists.specs.Lists.{splitOn, settings, noneYet, refused, addPair, addPairs, basicIn, dateIn, yearIn, timeIn, zoneIn, datedList, timedList, presentIf, complete, completed, listOf}
 use Rattle.settings.specs.TypeTexts.{listsOf, allOf, usable, distinct, oneRow, member, yearsOf, timeAt, listType, joined, typeOf}
-use Rattle.settings.specs.declared.types.Years.{Years}
-use Rattle.settings.specs.declared.types.Parts.{Parts}
-use Rattle.settings.specs.declared.types.Name.{Name}
-use Rattle.settings.specs.declared.types.«Type».{«Type»}
-use Rattle.settings.specs.declared.types.Limits.{Limits}
-use Rattle.settings.specs.declared.types.TypeRead.{TypeRead}
+use Rattle.types.specs.declared.types.Years.{Years}
+use Rattle.types.specs.declared.types.Parts.{Parts}
+use Rattle.types.specs.declared.types.Name.{Name}
+use Rattle.types.specs.declared.types.«Type».{«Type»}
+use Rattle.types.specs.declared.types.Limits.{Limits}
+use Rattle.types.specs.declared.types.TypeRead.{TypeRead}
 use Rattle.lists.specs.declared.words.Pair.{Pair}
 use Rattle.lists.specs.declared.lists.Settings.{Settings}
 use Rattle.lists.proofs.Laws.Words.{cond-le, place-in}

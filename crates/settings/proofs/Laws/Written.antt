@@ -8,8 +8,8 @@ use lib.Dec.{eqb}
 use lib.ListN.{length}
 use borrow.Author.Tests.{lt-ltb, ne-eqb, eq-eqb, eqb-true, eqb-false, le-leb, not-true}
 use Rattle.lists.specs.Octets.{bytes, eqList}
-use Rattle.settings.specs.Settings.{dateNumber, dateAt, clockNumber, clockAt, zoneNumber, zoneAt}
-use Rattle.settings.specs.Types.{unlimitedDate, unlimitedTime, listed, dated, timed, placed, limitedTo, someYear}
+use Rattle.types.specs.Numbers.{dateNumber, dateAt, clockNumber, clockAt, zoneNumber, zoneAt}
+use Rattle.types.specs.Types.{unlimitedDate, unlimitedTime, listed, dated, timed, placed, limitedTo, someYear}
 use Rattle.lists.specs.Words.{placeFrom, fractionNumber, pair, pairOf}
 use Rattle.lists.specs.Lists.{settings, noneYet, addPair, addPairs, datedList, timedList, complete, completed, listOf}
 use Rattle.settings.specs.TypeTexts.{listsOf, sameButYear, yearFamily, oneRow, equalLists, allOf, distinct, usable, member, yearsOf, timeAt, listType, joined, typeOf}
@@ -18,12 +18,12 @@ use Rattle.texts.specs.declared.forms.DateForm.{DateForm}
 use Rattle.texts.specs.declared.forms.ClockForm.{ClockForm}
 use Rattle.texts.specs.declared.forms.ZoneForm.{ZoneForm}
 use Rattle.texts.specs.declared.forms.TimeForm.{TimeForm}
-use Rattle.settings.specs.declared.types.Years.{Years}
-use Rattle.settings.specs.declared.types.DateType.{DateType}
-use Rattle.settings.specs.declared.types.TimeType.{TimeType}
-use Rattle.settings.specs.declared.types.Parts.{Parts}
-use Rattle.settings.specs.declared.types.Limits.{Limits}
-use Rattle.settings.specs.declared.types.TypeRead.{TypeRead}
+use Rattle.types.specs.declared.types.Years.{Years}
+use Rattle.types.specs.declared.types.DateType.{DateType}
+use Rattle.types.specs.declared.types.TimeType.{TimeType}
+use Rattle.types.specs.declared.types.Parts.{Parts}
+use Rattle.types.specs.declared.types.Limits.{Limits}
+use Rattle.types.specs.declared.types.TypeRead.{TypeRead}
 use Rattle.lists.specs.declared.lists.Settings.{Settings}
 use Rattle.lists.proofs.Laws.Octets.{equal}
 use Rattle.settings.proofs.Laws.Joining.{lacks, split-join, lacks-join, has-join, all-perm, all-weaken, length-perm}

@@ -13,10 +13,10 @@ use Rattle.calendar.specs.Years.{astronomicalOf, leapOf, yearAt, yearLengthOf}
 use Rattle.lists.specs.Lists.{addPair, addPairs, complete, completed, datedList, listOf, splitOn, timedList}
 use Rattle.lists.specs.Octets.{bytes, eqList}
 use Rattle.lists.specs.Words.{fractionNumber, pairOf, placeFrom}
-use Rattle.settings.specs.Settings.{clockAt, dateAt, zoneAt}
+use Rattle.types.specs.Numbers.{clockAt, dateAt, zoneAt}
 use Rattle.settings.specs.TypeTexts.{allOf, distinct, equalLists, joined, listType, listsOf, member, oneRow, sameButYear, timeAt, typeOf, usable, yearFamily, yearsOf}
-use Rattle.settings.specs.Types.{limitedTo, noLimits, placed, typeNumber, wellFormed}
-use Rattle.settings.specs.declared.types.TypeRead.{TypeRead}
+use Rattle.types.specs.Types.{limitedTo, noLimits, placed, typeNumber, wellFormed}
+use Rattle.types.specs.declared.types.TypeRead.{TypeRead}
 use Rattle.texts.specs.Dates.{getAfter, getDate, getWeek, putAfter, putDate}
 use Rattle.texts.specs.Digits.{getDigits, getField, leading, putDigits}
 use Rattle.texts.specs.Texts.{getValue, readUpTo, render, textOf}

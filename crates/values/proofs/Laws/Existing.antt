@@ -16,10 +16,10 @@ use Rattle.answers.specs.Refusals.{numberOf}
 use Rattle.answers.specs.declared.refusals.Refusal.{Refusal}
 use Rattle.printing.proofs.Laws.Canonical.{can-print, text-front, text-length, text-size}
 use Rattle.printing.specs.Canonical.{bufferWith, capacity, lengthIn, printable}
-use Rattle.settings.specs.Types.{formOf, formOfParts, wellFormed}
-use Rattle.settings.specs.declared.types.DateType.{DateType}
-use Rattle.settings.specs.declared.types.Parts.{Parts}
-use Rattle.settings.specs.declared.types.«Type».{«Type» as Ty}
+use Rattle.types.specs.Types.{formOf, formOfParts, wellFormed}
+use Rattle.types.specs.declared.types.DateType.{DateType}
+use Rattle.types.specs.declared.types.Parts.{Parts}
+use Rattle.types.specs.declared.types.«Type».{«Type» as Ty}
 use Rattle.texts.proofs.Laws.Fits.{AfterFits, ClockFits, DateFits, Fits, TimeFits, YearFits, ZoneFits}
 use Rattle.texts.proofs.Laws.Forms.{one-value, other-form}
 use Rattle.texts.proofs.Laws.Texts.{read-render, render-read}

@@ -19,15 +19,15 @@ use Rattle.texts.specs.declared.forms.TimeForm.{TimeForm}
 use Rattle.texts.specs.declared.forms.Form.{Form}
 use Rattle.texts.specs.declared.values.Time.{Time}
 use Rattle.texts.specs.declared.values.Value.{Value}
-use Rattle.settings.specs.declared.types.DateType.{DateType}
-use Rattle.settings.specs.declared.types.TimeType.{TimeType}
-use Rattle.settings.specs.declared.types.Years.{Years}
-use Rattle.settings.specs.declared.types.Window.{Window}
-use Rattle.settings.specs.declared.types.Parts.{Parts}
-use Rattle.settings.specs.declared.types.«Type».{«Type» as Ty}
+use Rattle.types.specs.declared.types.DateType.{DateType}
+use Rattle.types.specs.declared.types.TimeType.{TimeType}
+use Rattle.types.specs.declared.types.Years.{Years}
+use Rattle.types.specs.declared.types.Window.{Window}
+use Rattle.types.specs.declared.types.Parts.{Parts}
+use Rattle.types.specs.declared.types.«Type».{«Type» as Ty}
 use Rattle.texts.specs.Forms.{dateForm, timeForm, valueForm}
-use Rattle.settings.specs.Settings.{dateNumber, clockNumber, zoneNumber}
-use Rattle.settings.specs.Types.{formOfParts, formOf}
+use Rattle.types.specs.Numbers.{dateNumber, clockNumber, zoneNumber}
+use Rattle.types.specs.Types.{formOfParts, formOf}
 use Rattle.values.specs.Forms.{sameDateForm, sameTimeForm, sameForm}
 use Rattle.values.specs.Existence.{hoursOf, existsValue}
 use Rattle.texts.specs.Forms.{yearOf}

@@ -1,0 +1,45 @@
+-- `rows::same_row` meets its contract.
+use borrow.Author.Tests.{eq-eqb, ne-eqb}
+use Rattle.types.specs.Rows.{sameRow}
+use Rattle.types.proofs.rows.same_row.Statement.{statement}
+use Rattle.types.proofs.rows.same_row.Tie as tie
+
+returns : tie.Need-returns
+unfolding sameRow
+returns c = simp (ne-eqb _ _ (c .if1 .taken))
+
+returns-2 : tie.Need-returns-2
+unfolding sameRow
+returns-2 c = simp (eq-eqb _ _ (c .before .before .before .if1 .left), ne-eqb _ _ (c .if2 .taken))
+
+returns-3 : tie.Need-returns-3
+unfolding sameRow
+returns-3 c =
+    simp (
+      eq-eqb _ _ (c .before .before .before .before .before .before .if1 .left),
+      eq-eqb _ _ (c .before .before .before .if2 .left),
+      ne-eqb _ _ (c .if3 .taken),
+    )
+
+returns-4 : tie.Need-returns-4
+unfolding sameRow
+returns-4 c =
+    simp (
+      eq-eqb _ _ (c .before .before .before .before .before .before .before .before .before .if1 .left),
+      eq-eqb _ _ (c .before .before .before .before .before .before .if2 .left),
+      eq-eqb _ _ (c .before .before .before .if3 .left),
+      ne-eqb _ _ (c .if4 .taken),
+    )
+
+returns-5 : tie.Need-returns-5
+unfolding sameRow
+returns-5 c =
+    rw (
+      eq-eqb _ _ (c .before .before .before .before .before .before .before .before .before .before .before .if1 .left),
+      eq-eqb _ _ (c .before .before .before .before .before .before .before .before .if2 .left),
+      eq-eqb _ _ (c .before .before .before .before .before .if3 .left),
+      eq-eqb _ _ (c .before .before .if4 .left),
+    )
+
+pub same-row-spec : {M : Type 1} → statement M
+same-row-spec = tie.close (tie.spec returns returns-2 returns-3 returns-4 returns-5)

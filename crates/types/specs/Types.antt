@@ -1,0 +1,183 @@
+-- "What a type is": its settings, its name, and the restrictions that it carries.
+use Prim.Native.Nat.{ℕ}
+use mathlib.Core.Bool.{Bool, true, false, not, _&&_, _||_, cond}
+use lib.Dec.{eqb, leb}
+use Rattle.answers.specs.Refusals.{numberOf}
+use Rattle.types.specs.Numbers.{dateNumber, clockNumber, zoneNumber}
+use Rattle.texts.specs.declared.forms.DateForm.{DateForm}
+use Rattle.texts.specs.declared.forms.ClockForm.{ClockForm}
+use Rattle.texts.specs.declared.forms.ZoneForm.{ZoneForm}
+use Rattle.texts.specs.declared.forms.TimeForm.{TimeForm}
+use Rattle.texts.specs.declared.forms.Form.{Form}
+use Rattle.answers.specs.declared.refusals.Refusal.{Refusal}
+use Rattle.types.specs.declared.types.Years.{Years}
+use Rattle.types.specs.declared.types.Window.{Window}
+use Rattle.types.specs.declared.types.DateType.{DateType}
+use Rattle.types.specs.declared.types.TimeType.{TimeType}
+use Rattle.types.specs.declared.types.Parts.{Parts}
+use Rattle.types.specs.declared.types.Name.{Name}
+use Rattle.types.specs.declared.types.«Type».{«Type»}
+use Rattle.types.specs.declared.types.Limits.{Limits}
+use Rattle.types.specs.declared.types.TypeRead.{TypeRead}
+
+-- "The seven numbers" of what a type's text gives: 0 for a type, 1 for settings and restrictions, 2 for rows.
+abbrev pub typeNumber : TypeRead → ℕ
+typeNumber (TypeRead.«Type» t) = 0
+typeNumber TypeRead.Unreadable = numberOf Refusal.Settings
+typeNumber TypeRead.NoRow = numberOf Refusal.Rows
+
+-- A date without a restriction, ..
+abbrev pub unlimitedDate : DateForm → Years → DateType
+unlimitedDate f y = record { form = f; years = y; window = Window.Every }
+
+-- .. and a time without one.
+abbrev pub unlimitedTime : TimeForm → TimeType
+unlimitedTime f = record { form = f; hour24 = true }
+
+-- A type that is given by its settings and not by a name.
+abbrev pub listed : Parts → «Type»
+listed p = record { name = Name.Listed; parts = p }
+
+-- "The names DATE, TIME-OF-DAY and DATE-TIME may stand for their settings (34 bis.4): YMD with Year=Basic, ..
+abbrev pub ymdBasic : DateType
+ymdBasic = unlimitedDate DateForm.YMD (Years.Plain (record { basic = true; proleptic = false }))
+
+-- .. HMS with L, and both together."
+abbrev pub hmsLocal : TimeType
+hmsLocal = unlimitedTime (record { clock = ClockForm.HMS; digits = 0; zone = ZoneForm.L })
+
+-- The type DATE.
+abbrev pub DATE : «Type»
+DATE = record { name = Name.Date; parts = Parts.Date ymdBasic }
+
+-- The type TIME-OF-DAY.
+abbrev pub TIME-OF-DAY : «Type»
+TIME-OF-DAY = record { name = Name.TimeOfDay; parts = Parts.Time hmsLocal }
+
+-- The type DATE-TIME.
+abbrev pub DATE-TIME : «Type»
+DATE-TIME = record { name = Name.DateTime; parts = Parts.DateTime ymdBasic hmsLocal }
+
+-- The type that each name stands for; settings that are listed have no name.
+abbrev pub readyOf : Name → TypeRead
+readyOf Name.Listed = TypeRead.Unreadable
+readyOf Name.Date = TypeRead.«Type» DATE
+readyOf Name.TimeOfDay = TypeRead.«Type» TIME-OF-DAY
+readyOf Name.DateTime = TypeRead.«Type» DATE-TIME
+
+-- Whether the value has a date, ..
+abbrev pub dated : Parts → Bool
+dated (Parts.Date d) = true
+dated (Parts.Time t) = false
+dated (Parts.DateTime d t) = true
+
+-- .. and whether it has a time.
+abbrev pub timed : Parts → Bool
+timed (Parts.Date d) = false
+timed (Parts.Time t) = true
+timed (Parts.DateTime d t) = true
+
+-- Whether there is no lowest and highest year.
+abbrev pub everyYear : Window → Bool
+everyYear Window.Every = true
+everyYear (Window.Within lowest highest) = false
+
+-- "a lowest and a highest year (only where there is a date, else refusal 1), and "no hour 24" (only where there is a time, else refusal 1)"
+unfoldable pub placed : Limits → Bool → Bool → Bool
+placed limits date time = (everyYear (limits .window) || date) && (limits .hour24 || time)
+
+-- A date with this lowest and highest year, ..
+abbrev pub inWindow : Window → DateType → DateType
+inWindow w d = record { form = d .form; years = d .years; window = w }
+
+-- .. a time with or without hour 24, ..
+abbrev pub withHour24 : Bool → TimeType → TimeType
+withHour24 h t = record { form = t .form; hour24 = h }
+
+-- .. and settings with the restrictions of these limits, and no other.
+abbrev pub restricted : Limits → Parts → Parts
+restricted limits (Parts.Date d) = Parts.Date (inWindow (limits .window) d)
+restricted limits (Parts.Time t) = Parts.Time (withHour24 (limits .hour24) t)
+restricted limits (Parts.DateTime d t) = Parts.DateTime (inWindow (limits .window) d) (withHour24 (limits .hour24) t)
+
+-- A type under limits, or refusal 1: "a restriction where it has no place".
+unfoldable pub limitedTo : Limits → «Type» → TypeRead
+limitedTo limits t =
+    cond (placed limits (dated (t .parts)) (timed (t .parts)))
+    (TypeRead.«Type» (record { name = t .name; parts = restricted limits (t .parts) }))
+    TypeRead.Unreadable
+
+-- "A type may carry two restrictions": none of them, ..
+abbrev pub noLimits : Limits
+noLimits = record { window = Window.Every; hour24 = true }
+
+-- .. and those that a type carries.
+abbrev pub limitsOf : Parts → Limits
+limitsOf (Parts.Date d) = record { window = d .window; hour24 = true }
+limitsOf (Parts.Time t) = record { window = Window.Every; hour24 = t .hour24 }
+limitsOf (Parts.DateTime d t) = record { window = d .window; hour24 = t .hour24 }
+
+-- `Year` is "present exactly when the value has a date": some Year is named.
+abbrev pub someYear : Years → Bool
+someYear (Years.Plain y) = y .basic || y .proleptic
+someYear (Years.Signed y) = y .negative || y .five
+
+-- "`Time`: .. HFn, HMFn, HMSFn, with n from 1 to 9."
+abbrev pub fewDigits : TimeType → Bool
+fewDigits t = leb (t .form .digits) 9
+
+-- What a type that is listed has to meet.
+abbrev pub wellParts : Parts → Bool
+wellParts (Parts.Date d) = someYear (d .years)
+wellParts (Parts.Time t) = fewDigits t
+wellParts (Parts.DateTime d t) = someYear (d .years) && fewDigits t
+
+-- Year=Basic and no other.
+abbrev pub basicAlone : Years → Bool
+basicAlone (Years.Plain y) = y .basic && not (y .proleptic)
+basicAlone (Years.Signed y) = false
+
+-- "YMD with Year=Basic".
+abbrev pub basicYmd : DateType → Bool
+basicYmd d = eqb (dateNumber (d .form)) 3 && basicAlone (d .years)
+
+-- "HMS with L".
+abbrev pub localHms : TimeType → Bool
+localHms t = eqb (clockNumber (t .form .clock)) 3 && eqb (t .form .digits) 0 && eqb (zoneNumber (t .form .zone)) 1
+
+-- A name stands for its own settings only, whatever the restrictions.
+abbrev pub ownSettings : Name → Parts → Bool
+ownSettings Name.Listed p = true
+ownSettings Name.Date (Parts.Date d) = basicYmd d
+ownSettings Name.Date (Parts.Time t) = false
+ownSettings Name.Date (Parts.DateTime d t) = false
+ownSettings Name.TimeOfDay (Parts.Date d) = false
+ownSettings Name.TimeOfDay (Parts.Time t) = localHms t
+ownSettings Name.TimeOfDay (Parts.DateTime d t) = false
+ownSettings Name.DateTime (Parts.Date d) = false
+ownSettings Name.DateTime (Parts.Time t) = false
+ownSettings Name.DateTime (Parts.DateTime d t) = basicYmd d && localHms t
+
+-- A type that settings or a name can give; any other is refusal 1.
+unfoldable pub wellFormed : «Type» → Bool
+wellFormed t = wellParts (t .parts) && ownSettings (t .name) (t .parts)
+
+-- "The form is what a text shows of the settings, n included and Year left out."
+abbrev pub formOfParts : Parts → Form
+formOfParts (Parts.Date d) = Form.Date (d .form)
+formOfParts (Parts.Time t) = Form.Time (t .form)
+formOfParts (Parts.DateTime d t) = Form.DateTime (d .form) (t .form)
+
+-- The form of a type.
+abbrev pub formOf : «Type» → Form
+formOf t = formOfParts (t .parts)
+
+-- "A type's number of fraction digits is n, or 0 without Fn."
+abbrev pub digitsOfParts : Parts → ℕ
+digitsOfParts (Parts.Date d) = 0
+digitsOfParts (Parts.Time t) = t .form .digits
+digitsOfParts (Parts.DateTime d t) = t .form .digits
+
+-- The number of fraction digits of a type.
+abbrev pub fractionDigits : «Type» → ℕ
+fractionDigits t = digitsOfParts (t .parts)

@@ -1,0 +1,17 @@
+// Type descriptions: what a type says of its values, ready types, limits, and which types select the same rows.
+pub mod numbers;
+pub mod rows;
+pub mod types;
+
+pub use rows::same_rows;
+pub use types::DateType;
+pub use types::Limits;
+pub use types::Name;
+pub use types::Parts;
+pub use types::PlainYears;
+pub use types::SignedYears;
+pub use types::TimeType;
+pub use types::Type;
+pub use types::TypeRead;
+pub use types::Window;
+pub use types::Years;

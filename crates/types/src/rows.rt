@@ -1,0 +1,115 @@
+ghost use mathlib.Core.Path.{_≡_};
+ghost use Rattle.types.specs.Rows.{familyOf, rowOf, sameRow, sameRows, timeNumber};
+use crate::numbers::clock_number;
+use crate::numbers::date_number;
+use crate::numbers::zone_number;
+use crate::types::Parts;
+use crate::types::Type;
+use crate::types::Years;
+use texts::ClockForm;
+use texts::TimeForm;
+
+// What decides the rows of Table 2 that a type selects, each setting by its number, 0 where the type has none.
+pub struct Row {
+    pub basic: u32,
+    pub date: u32,
+    pub family: u32,
+    pub time: u32,
+    pub zone: u32,
+}
+
+// 1 for the Years without a sign, 2 for those with one.
+fn family(years: Years) -> u32
+    ensures { λ r. ⌜ r ≡ familyOf years ⌝ }
+{
+    match years {
+        Years::Plain(_) => 1,
+        Years::Signed(_) => 2,
+    }
+}
+
+// The number of a Time setting, with or without a fraction, however many its digits.
+fn time_number(form: TimeForm) -> u32
+    ensures { λ r. ⌜ r ≡ timeNumber form ⌝ }
+{
+    let clock = form.clock;
+    if form.digits == 0 {
+        return clock_number(clock);
+    }
+    match clock {
+        ClockForm::H => 4,
+        ClockForm::HM => 5,
+        ClockForm::HMS => 6,
+    }
+}
+
+// What decides the rows, from a type's settings.
+fn row_of(parts: Parts) -> Row
+    ensures { λ r. ⌜ r ≡ rowOf parts ⌝ }
+{
+    match parts {
+        Parts::Date(d) => {
+            let form = d.form;
+            let years = d.years;
+            Row {
+                basic: 1,
+                date: date_number(form),
+                family: family(years),
+                time: 0,
+                zone: 0,
+            }
+        }
+        Parts::Time(t) => {
+            let form = t.form;
+            let zone = form.zone;
+            Row {
+                basic: 2,
+                date: 0,
+                family: 0,
+                time: time_number(form),
+                zone: zone_number(zone),
+            }
+        }
+        Parts::DateTime(d, t) => {
+            let date = d.form;
+            let years = d.years;
+            let time = t.form;
+            let zone = time.zone;
+            Row {
+                basic: 3,
+                date: date_number(date),
+                family: family(years),
+                time: time_number(time),
+                zone: zone_number(zone),
+            }
+        }
+    }
+}
+
+// Whether two types agree in all that decides the rows.
+fn same_row(a: Row, b: Row) -> bool
+    ensures { λ r. ⌜ r ≡ sameRow a b ⌝ }
+{
+    if a.basic != b.basic {
+        return false;
+    }
+    if a.date != b.date {
+        return false;
+    }
+    if a.family != b.family {
+        return false;
+    }
+    if a.time != b.time {
+        return false;
+    }
+    a.zone == b.zone
+}
+
+// Whether two types select the same rows.
+pub fn same_rows(a: Type, b: Type) -> bool
+    ensures { λ r. ⌜ r ≡ sameRows a b ⌝ }
+{
+    let p = a.parts;
+    let q = b.parts;
+    same_row(row_of(p), row_of(q))
+}
