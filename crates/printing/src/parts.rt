@@ -110,9 +110,9 @@ fn put_week(b: &mut [u8], at: usize, week: u32) -> usize
 
 // What a date has after its year.
 fn put_after(b: &mut [u8], at: usize, date: Date) -> usize
-    requires { ⌜ at + 7 ≤ length (now b) ⌝ }
+    requires { ⌜ at + 6 ≤ length (now b) ⌝ }
     ensures { λ r. ⌜ Put (now (b .entry)) (now (b .exit)) at (putAfter date) r ⌝ }
-    ensures { λ r. ⌜ r ≤ at + 7 ⌝ }
+    ensures { λ r. ⌜ r ≤ at + 6 ⌝ }
 {
     match date {
         Date::Y(_) => at,
@@ -132,9 +132,9 @@ fn put_after(b: &mut [u8], at: usize, date: Date) -> usize
 
 // A date.
 fn put_date(b: &mut [u8], at: usize, date: Date) -> usize
-    requires { ⌜ at + 28 ≤ length (now b) ⌝ }
+    requires { ⌜ at + 27 ≤ length (now b) ⌝ }
     ensures { λ r. ⌜ Put (now (b .entry)) (now (b .exit)) at (putDate date) r ⌝ }
-    ensures { λ r. ⌜ r ≤ at + 28 ⌝ }
+    ensures { λ r. ⌜ r ≤ at + 27 ⌝ }
 {
     let p = put_year(b, at, year_of(date));
     put_after(b, p, date)
@@ -232,9 +232,9 @@ fn put_time(b: &mut [u8], at: usize, time: Time) -> usize
 
 // A value.
 pub(crate) fn put_value(b: &mut [u8], at: usize, value: Value) -> usize
-    requires { ⌜ (formDigits (valueForm value) ≤ 9) × (at + 53 ≤ length (now b)) ⌝ }
+    requires { ⌜ (formDigits (valueForm value) ≤ 9) × (at + 52 ≤ length (now b)) ⌝ }
     ensures { λ r. ⌜ Put (now (b .entry)) (now (b .exit)) at (textOf value) r ⌝ }
-    ensures { λ r. ⌜ r ≤ at + 53 ⌝ }
+    ensures { λ r. ⌜ r ≤ at + 52 ⌝ }
 {
     match value {
         Value::Date(date) => put_date(b, at, date),

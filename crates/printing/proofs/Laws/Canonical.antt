@@ -63,7 +63,7 @@ unfolding yearText
 year-length (pos n) = both (λ (t : List ℕ). length t ≤ 21) (ltb n 10000) (simp length-put (omega arith)) (signed-length plus n)
 year-length (negsuc k) = signed-length hyphen (suc k)
 
-after-length : (d : Date) → length (putAfter d) ≤ 7
+after-length : (d : Date) → length (putAfter d) ≤ 6
 unfolding putAfter
 after-length (Date.Y y) = omega arith
 after-length (Date.YM y m) = simp length-put (omega arith)
@@ -72,7 +72,7 @@ after-length (Date.YD y d) = simp length-put (omega arith)
 after-length (Date.YW y w) = simp length-put (omega arith)
 after-length (Date.YWD y w d) = simp (length-append, length-put) (omega arith)
 
-date-length : (d : Date) → length (putDate d) ≤ 28
+date-length : (d : Date) → length (putDate d) ≤ 27
 unfolding putDate
 date-length d = simp length-append (omega (arith, year-length (astronomicalOf (yearOf d)), after-length d))
 
@@ -99,7 +99,7 @@ time-length : (t : Time) → t .digits ≤ 9 → length (putTime canonical t) �
 unfolding putTime
 time-length t h = simp length-append (omega (arith, clock-length (t .clock), fraction-length (t .digits) (fraction false (t .fraction)) h, zone-length (t .zone)))
 
-pub text-length : (v : Value) → formDigits (valueForm v) ≤ 9 → length (textOf v) ≤ 53
+pub text-length : (v : Value) → formDigits (valueForm v) ≤ 9 → length (textOf v) ≤ 52
 unfolding render
 text-length (Value.Date d) h = omega (arith, date-length d)
 text-length (Value.Time t) h = omega (arith, time-length t h)

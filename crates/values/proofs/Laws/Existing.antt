@@ -178,7 +178,7 @@ module _ (v : Value) (e : existsValue v ≡ true) (b : List ℕ) (k : capacity �
   prints : printable v b ≡ true
   prints = can-print v b (exists-digits v e) k
 
-  pub text-short : n ≤ 53
+  pub text-short : n ≤ 52
   text-short = omega (arith, text-size v b prints, text-length v (exists-digits v e))
 
   pub text-taken : {m : List ℕ} → m ≡ bufferWith v b → take n m ≡ textOf v
