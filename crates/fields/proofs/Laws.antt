@@ -1,0 +1,2 @@
+-- The laws of bits and fields.
+pub mod Cases
