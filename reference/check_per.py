@@ -23,6 +23,7 @@ H_Z = b"Basic=Time Time=H Local-or-UTC=Z"
 H_LD = b"Basic=Time Time=H Local-or-UTC=LD"
 HF1_L = b"Basic=Time Time=HF1 Local-or-UTC=L"
 HF2_L = b"Basic=Time Time=HF2 Local-or-UTC=L"
+HF2_LD = b"Basic=Time Time=HF2 Local-or-UTC=LD"
 HF4_L = b"Basic=Time Time=HF4 Local-or-UTC=L"
 HMSF3_L = b"Basic=Time Time=HMSF3 Local-or-UTC=L"
 HMSF4_L = b"Basic=Time Time=HMSF4 Local-or-UTC=L"
@@ -158,9 +159,13 @@ REFUSED_OCTETS = (
     (NO_LIMITS, b"DATE", "05 58 00", ROOM, 6),
     # "the lent room is shorter than the result"
     (NO_LIMITS, b"DATE", "05 58", 9, 7),
-    # "When several hold, the lowest number is given.": 3 after 4, 4 after 5, 5 with 6, 6 with 7
+    # "When several hold, the lowest number is given.": 3 after 4, 3 after 5, 3 after 6
     (NO_LIMITS, b"DATE-TIME", "04 79 C8 00", ROOM, 3),
+    (NO_LIMITS, b"DATE-TIME", "C0 81 0A 95 9F 00 00", ROOM, 3),
+    (NO_LIMITS, HF2_LD, "7C 04 CA FE C0", ROOM, 3),
+    # 4 with 5, 4 with 6, 5 with 6, 6 with 7
     (NO_LIMITS, YMD_PROLEPTIC, "04 78", ROOM, 4),
+    (NO_LIMITS, b"DATE", "C0 81 F6 87 80", ROOM, 4),
     (NO_LIMITS, Y_PROLEPTIC, "C0 81 F6 80", ROOM, 5),
     (NO_LIMITS, b"DATE", "05 59", 0, 6),
 )
@@ -178,7 +183,8 @@ def check_value(type_text, text, octets, bits):
     agree(encode(type_text, NO_LIMITS, text, room), (0, octets, bits), "encode", type_text, text)
     agree(encode(type_text, NO_LIMITS, text, room - 1), (7, b"", 0), "encode", type_text, text, "room", room - 1)
     agree(decode(type_text, NO_LIMITS, octets, back), (0, text, bits), "decode", type_text, octets.hex())
-    agree(decode(type_text, NO_LIMITS, octets, back - 1), (7, b"", 0), "decode", type_text, octets.hex(), "room", back - 1)
+    found = decode(type_text, NO_LIMITS, octets, back - 1)
+    agree(found, (7, b"", 0), "decode", type_text, octets.hex(), "room", back - 1)
 
 
 def main():
