@@ -1,0 +1,272 @@
+"""Unaligned PER of document 01, "Bits": "Fields follow one another without gaps". Bits are a text of 0 and 1."""
+
+from collections import namedtuple
+
+from settings import is_refused, read_type
+from texts import Date, Difference, Fraction, TIME_FIELDS, Time, Value
+from texts import canonical_text, holds, read_text, value_exists
+
+# a field of so many bits, with the lowest and the highest number of its range; the lowest is written as 0
+Field = namedtuple("Field", "lowest highest width")
+
+# "0: year - 2005 in 4 bits (2005 to 2020). 1: year - 2021 in 8 (2021 to 2276). 2: year - 1749 in 8 (1749 to 2004)"
+NEAR_YEARS = (Field(2005, 2020, 4), Field(2021, 2276, 8), Field(1749, 2004, 8))
+
+# "3: other years, as a free integer"
+OTHER_YEARS = 3
+
+# "Month - 1 in 4 bits, day - 1 in 5, ordinal day - 1 in 9, week - 1 in 6, weekday - 1 in 3"
+MONTH, DAY, ORDINAL_DAY = Field(1, 12, 4), Field(1, 31, 5), Field(1, 366, 9)
+WEEK, WEEKDAY = Field(1, 53, 6), Field(1, 7, 3)
+
+# "Date: Y, YM, YMD, YD, YW, YWD"
+DATE_FIELDS = {
+    "Y": (),
+    "YM": (MONTH,),
+    "YMD": (MONTH, DAY),
+    "YD": (ORDINAL_DAY,),
+    "YW": (WEEK,),
+    "YWD": (WEEK, WEEKDAY),
+}
+
+# "Hours 5 bits, minutes 6, seconds 6"
+DAY_TIME_FIELDS = (Field(0, 24, 5), Field(0, 59, 6), Field(0, 60, 6))
+
+# "up to 999, a 0 bit and 10 bits"
+SHORT_FRACTION = Field(0, 999, 10)
+
+# TIME-DIFFERENCE of 28 bis.3.3: "hours INTEGER (-15..16), minutes INTEGER (1..59) OPTIONAL"
+DIFFERENCE_HOURS, DIFFERENCE_MINUTES = Field(-15, 16, 5), Field(1, 59, 6)
+
+
+class Unreadable(Exception):
+    """"octets end inside a field; a field's bits above its range; a free integer's length not 1 to 4", and so on."""
+
+
+class Bits:
+    """The bits of octets, and the place up to which they are read."""
+
+    def __init__(self, octets):
+        self.bits = octet_bits(octets)
+        self.place = 0
+
+    def take(self, width):
+        """Reads so many bits as a number; "octets end inside a field" is refusal 3."""
+        end = self.place + width
+        if end > len(self.bits):
+            raise Unreadable
+        number = int(self.bits[self.place:end], 2)
+        self.place = end
+        return number
+
+    def take_field(self, field):
+        """Reads a field; "a field's bits above its range" is refusal 3."""
+        number = field.lowest + self.take(field.width)
+        if number > field.highest:
+            raise Unreadable
+        return number
+
+    def take_free_integer(self):
+        """"one octet of length, then that many octets"; "a free integer's length not 1 to 4" is refusal 3."""
+        length = self.take(8)
+        if not 1 <= length <= 4:
+            raise Unreadable
+        number = self.take(8 * length)
+        return number - (number >> (8 * length - 1) << 8 * length)
+
+
+def number_bits(number, width):
+    """A number from 0 in so many bits."""
+    return "{:0{}b}".format(number, width)
+
+
+def field_bits(field, number):
+    """A field: "Month - 1 in 4 bits", and so on."""
+    return number_bits(number - field.lowest, field.width)
+
+
+def octet_bits(octets):
+    """The bits of octets: "a place in bits becomes a place in octets only by the factor 8"."""
+    return "".join(number_bits(octet, 8) for octet in octets)
+
+
+def fill(bits):
+    """"the last octet is filled with zero bits"."""
+    filled = bits + "0" * (-len(bits) % 8)
+    return bytes(int(filled[place:place + 8], 2) for place in range(0, len(filled), 8))
+
+
+def free_integer_length(number):
+    """How many octets of two's complement, "the fewest possible"."""
+    length = 1
+    while not -(1 << (8 * length - 1)) <= number < 1 << (8 * length - 1):
+        length += 1
+    return length
+
+
+def free_integer_bits(number):
+    """"Free integer: one octet of length, then that many octets of two's complement, the fewest possible"."""
+    length = free_integer_length(number)
+    return octet_bits(bytes([length]) + number.to_bytes(length, "big", signed=True))
+
+
+def has_choice_bits(t):
+    """"Year, Basic or Proleptic: two choice bits"; "Year, Negative or L5: a free integer, no choice bits"."""
+    return t.years <= {"Basic", "Proleptic"}
+
+
+def year_bits(t, year):
+    """"two choice bits", then the year as the choice says; or "a free integer, no choice bits"."""
+    if not has_choice_bits(t):
+        return free_integer_bits(year)
+    for choice, field in enumerate(NEAR_YEARS):
+        if field.lowest <= year <= field.highest:
+            return number_bits(choice, 2) + field_bits(field, year)
+    return number_bits(OTHER_YEARS, 2) + free_integer_bits(year)
+
+
+def date_bits(t, date):
+    """The year, then "Month - 1 in 4 bits, day - 1 in 5, ordinal day - 1 in 9, week - 1 in 6, weekday - 1 in 3"."""
+    fields = zip(DATE_FIELDS[date.form], date.fields)
+    return year_bits(t, date.year) + "".join(field_bits(field, number) for field, number in fields)
+
+
+def fraction_bits(fraction):
+    """"Fraction, the n digits as a number: up to 999, a 0 bit and 10 bits; from 1000, a 1 bit and a free integer"."""
+    if fraction.number <= 999:
+        return "0" + field_bits(SHORT_FRACTION, fraction.number)
+    return "1" + free_integer_bits(fraction.number)
+
+
+def difference_bits(difference):
+    """A bit for whether minutes follow, then 28 bis.3.3: "If the minutes component of the time-difference is zero, the
+    TIME-DIFFERENCE minutes shall be omitted"."""
+    hours = -difference.hours if difference.sign == b"-" else difference.hours
+    if difference.minutes == 0:
+        return "0" + field_bits(DIFFERENCE_HOURS, hours)
+    return "1" + field_bits(DIFFERENCE_HOURS, hours) + field_bits(DIFFERENCE_MINUTES, difference.minutes)
+
+
+def time_bits(time):
+    """"Hours 5 bits, minutes 6, seconds 6", the fraction, and the difference "after the local time"."""
+    bits = "".join(field_bits(field, number) for field, number in zip(DAY_TIME_FIELDS, time.fields))
+    if time.fraction:
+        bits += fraction_bits(time.fraction)
+    if time.difference:
+        bits += difference_bits(time.difference)
+    return bits
+
+
+def value_bits(t, value):
+    """"Date-time: the date's bits, then the time's"."""
+    bits = ""
+    if value.date:
+        bits += date_bits(t, value.date)
+    if value.time:
+        bits += time_bits(value.time)
+    return bits
+
+
+def take_year(bits, t):
+    """A year of any choice, and of any size: "The same holds for a year read from PER bits, at any size"."""
+    if not has_choice_bits(t):
+        return bits.take_free_integer()
+    choice = bits.take(2)
+    if choice == OTHER_YEARS:
+        return bits.take_free_integer()
+    return bits.take_field(NEAR_YEARS[choice])
+
+
+def take_date(bits, t):
+    """The year, then the fields that the form has; "month 13, weekday 8 or hour 25 is 4; in PER bits it is 3"."""
+    year = take_year(bits, t)
+    return Date(t.date, year, tuple(bits.take_field(field) for field in DATE_FIELDS[t.date]))
+
+
+def take_fraction(bits, digits):
+    """A fraction of either length; "a fraction negative or of more than n digits" is refusal 3."""
+    number = bits.take_free_integer() if bits.take(1) else bits.take_field(SHORT_FRACTION)
+    if not 0 <= number < 10 ** digits:
+        raise Unreadable
+    return Fraction(number, digits)
+
+
+def take_difference(bits):
+    """A bit for whether minutes follow, the hours and the minutes; "a zero difference has `+`"."""
+    present = bits.take(1)
+    hours = bits.take_field(DIFFERENCE_HOURS)
+    minutes = bits.take_field(DIFFERENCE_MINUTES) if present else 0
+    return Difference(b"-" if hours < 0 else b"+", abs(hours), minutes)
+
+
+def take_time(bits, t):
+    """The fields that the form has, the fraction for Fn, and the difference for LD; "`Z` takes no bits"."""
+    fields = tuple(bits.take_field(field) for field in DAY_TIME_FIELDS[:TIME_FIELDS[t.time]])
+    fraction = take_fraction(bits, t.digits) if t.digits else None
+    difference = take_difference(bits) if t.zone == "LD" else None
+    return Time(fields, fraction, t.zone, difference)
+
+
+def take_value(bits, t):
+    """"Date-time: the date's bits, then the time's"."""
+    date = take_date(bits, t) if t.date else None
+    time = take_time(bits, t) if t.time else None
+    return Value(date, time)
+
+
+def read_octets(t, octets):
+    """The value that the octets begin with, whether or not the encoder writes it so; None for refusal 3."""
+    try:
+        return take_value(Bits(octets), t)
+    except Unreadable:
+        return None
+
+
+def refusal(number):
+    """"A refusal: number, length 0, bit count 0"."""
+    return number, b"", 0
+
+
+def success(result, bits, room_length):
+    """"Success is 0", with the result and the bit count; 7 when "the lent room is shorter than the result"."""
+    if room_length < len(result):
+        return refusal(7)
+    return 0, result, len(bits)
+
+
+def judge_value(t, value):
+    """3 where nothing was read; 4 for "no such date, time or difference"; 5 for "exists, but not in the type"; or 0."""
+    if value is None:
+        return 3
+    if not value_exists(value):
+        return 4
+    return 0 if holds(t, value) else 5
+
+
+def encode(type_text, limits, text, room_length):
+    """The number, the octets and the bit count, "the plain sum of these widths, before the filling"."""
+    t = read_type(type_text, limits)
+    if is_refused(t):
+        return refusal(t)
+    value, _ = read_text(t, text) or (None, None)
+    number = judge_value(t, value)
+    if number != 0:
+        return refusal(number)
+    bits = value_bits(t, value)
+    return success(fill(bits), bits, room_length)
+
+
+def decode(type_text, limits, octets, room_length):
+    """The number, the text and the bit count, "both when writing and when reading, the sum above"; 6 for "not what
+    the encoder writes"; "When several hold, the lowest number is given"."""
+    t = read_type(type_text, limits)
+    if is_refused(t):
+        return refusal(t)
+    value = read_octets(t, octets)
+    number = judge_value(t, value)
+    if number != 0:
+        return refusal(number)
+    bits = value_bits(t, value)
+    if fill(bits) != octets:
+        return refusal(6)
+    return success(canonical_text(value), bits, room_length)
