@@ -6,6 +6,7 @@ use calendar::Year;
 use libc::STDIN_FILENO;
 use libc::STDOUT_FILENO;
 use values::Admission;
+use values::Bits;
 use values::Limits;
 use values::Type;
 use values::TypeRead;
@@ -96,7 +97,7 @@ fn text_reply(value: Value) {
     let mut octets = [b'\n'; 64];
     octets[0] = b'0';
     octets[1] = b' ';
-    let outcome = values::write_text(value, &mut octets[2..]);
+    let outcome = values::write_text(value, Bits { count: 0 }, &mut octets[2..]);
     if outcome.number != 0 {
         return number_reply(outcome.number);
     }

@@ -7,6 +7,6 @@ use Rattle.texts.specs.declared.values.Value.{Value}
 use Rattle.texts.specs.Texts.{textOf}
 use Rattle.values.specs.Existence.{existsValue}
 
--- The text has no bits of its own; of no such value there is none.
-unfoldable pub written : Value → Answer
-written v = cond (existsValue v) (done (textOf v) (record { count = 0 })) (refused Refusal.Existence)
+-- The text has no bits of its own: they are those of the encoding that it was read from. Of no such value there is none.
+unfoldable pub written : Bits → Value → Answer
+written bits v = cond (existsValue v) (done (textOf v) bits) (refused Refusal.Existence)

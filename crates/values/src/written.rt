@@ -11,16 +11,16 @@ use printing::TEXT_CAPACITY;
 use printing::text_into;
 use texts::Value;
 
-// Puts the canonical text of a value at the front of the room, or refuses where there is no such value or the
-// room is shorter than the text.
-pub fn write_text(value: Value, room: &mut [u8]) -> Outcome
-    ensures { λ r. ⌜ r ≡ outcomeOf (written value) (now (room .entry)) ⌝ }
-    ensures { λ _. ⌜ now (room .exit) ≡ roomOf (written value) (now (room .entry)) ⌝ }
+// Puts the canonical text of a value at the front of the room, and reports the bits of the encoding that it was
+// read from; or refuses where there is no such value or the room is shorter than the text.
+pub fn write_text(value: Value, bits: Bits, room: &mut [u8]) -> Outcome
+    ensures { λ r. ⌜ r ≡ outcomeOf (written bits value) (now (room .entry)) ⌝ }
+    ensures { λ _. ⌜ now (room .exit) ≡ roomOf (written bits value) (now (room .entry)) ⌝ }
 {
     if !value_exists(value) {
         return Outcome::refused(Refusal::Existence);
     }
     let mut buffer = [0u8; TEXT_CAPACITY];
     let length = text_into(value, &mut buffer);
-    deliver(&buffer[..length], Bits { count: 0 }, room)
+    deliver(&buffer[..length], bits, room)
 }

@@ -1,0 +1,2 @@
+-- The laws of encoders and decoders.
+pub mod Coding

@@ -1,0 +1,161 @@
+-- Demands 2 and 3 and "each is given exactly then", for any lawful kind.
+use mathlib.Core.Path.{_≡_, refl, ap, sym, _∙_}
+use mathlib.Core.Bool.{Bool, true, false, cond}
+use mathlib.Core.List.{List, _++_}
+use Prim.Native.Nat.{ℕ, _≤_}
+use native.Mathlib.Omega.{arith}
+use lib.ListN.{length, take, drop}
+use Rattle.answers.specs.Outcomes.{Answer, done, refused, outcomeOf, roomOf}
+use Rattle.answers.specs.declared.counts.Bits.{Bits}
+use Rattle.answers.specs.declared.refusals.Refusal.{Refusal}
+use Rattle.answers.proofs.Laws.Outcomes as Outcomes
+use Rattle.lists.specs.Octets.{eqList}
+use Rattle.lists.proofs.Laws.Octets.{equal, equal-test}
+use Rattle.kinds.specs.Kinds.{Kind, Option, some, none}
+use Rattle.kinds.specs.Coding.{judgedAs, judgedText, encoded, compared, judgedOctets, decoded}
+use Rattle.kinds.specs.Demands.{Holds, Lawful, Demand2, Accepted, sent, Demand3, Judged, one, three, four, five, six, zero}
+
+-- A test that lets a result through held.
+passed : (b : Bool) (answer : Answer) (why : Refusal) (result : List ℕ) (bits : Bits)
+    → cond b answer (refused why) ≡ done result bits → (b ≡ true) × (answer ≡ done result bits)
+passed true answer why result bits e = (refl, e)
+passed false answer why result bits e = absurd (let z : _≡_ {A = ℕ} 0 1 = cc in omega arith)
+
+module _ {T F R A : Type 0} (K : Kind T F R A) where
+  -- What is accepted of a text is the encoding of a value that the type holds.
+  pub encoded-only : (t : T) (text result : List ℕ) (bits : Bits) → encoded K t text ≡ done result bits
+      → (a : A) × Holds K t a × (K .readText (K .form t) text ≡ some a)
+      × (_≡_ {A = Answer} (done (K .encoding (K .row t) a) (K .count (K .row t) a)) (done result bits))
+  unfolding encoded judgedText judgedAs
+  encoded-only t text result bits e =
+      let w = passed (K .wellFormed t) _ _ result bits e in
+      go (K .readText (K .form t) text) refl (w .0) (w .1)
+    where
+      go : (o : Option A) → K .readText (K .form t) text ≡ o → K .wellFormed t ≡ true → judgedText K t o ≡ done result bits
+          → (a : A) × Holds K t a × (K .readText (K .form t) text ≡ some a)
+          × (_≡_ {A = Answer} (done (K .encoding (K .row t) a) (K .count (K .row t) a)) (done result bits))
+      go none r w e = absurd (let z : _≡_ {A = ℕ} 0 1 = cc in omega arith)
+      go (some a) r w e =
+          let p = passed (K .exists a) _ _ result bits e in
+          let q = passed (K .inType t a) _ _ result bits (p .1) in
+          (a, record { formed = w; real = p .0; inside = q .0 }, r, q .1)
+
+  -- Any text of a value that the type holds is encoded.
+  pub encoded-own : (t : T) (text : List ℕ) (a : A) → Holds K t a → K .readText (K .form t) text ≡ some a
+      → encoded K t text ≡ done (K .encoding (K .row t) a) (K .count (K .row t) a)
+  unfolding encoded judgedText judgedAs
+  encoded-own t text a h e = simp (h .formed, e, h .real, h .inside)
+
+  -- "nothing more": what is accepted of octets is the encoding of the value returned.
+  pub decoded-only : (t : T) (octets result : List ℕ) (bits : Bits) → decoded K t octets ≡ done result bits → Accepted K t octets result
+  unfolding decoded judgedOctets judgedAs compared
+  decoded-only t octets result bits e =
+      let w = passed (K .wellFormed t) _ _ result bits e in
+      go (K .readOctets (K .row t) (K .form t) octets) (w .0) (w .1)
+    where
+      go : (o : Option A) → K .wellFormed t ≡ true → judgedOctets K t octets o ≡ done result bits → Accepted K t octets result
+      go none w e = absurd (let z : _≡_ {A = ℕ} 0 1 = cc in omega arith)
+      go (some a) w e =
+          let p = passed (K .exists a) _ _ result bits e in
+          let q = passed (K .inType t a) _ _ result bits (p .1) in
+          let c = passed (eqList octets (K .encoding (K .row t) a)) _ _ result bits (q .1) in
+          record {
+            value = a;
+            held = record { formed = w; real = p .0; inside = q .0 };
+            octets-are = equal octets (K .encoding (K .row t) a) (c .0);
+            text-is = sym (let r = c .1 in let s : K .textOf a ≡ result = cc in s);
+          }
+
+  module _ (L : Lawful K) where
+    -- The reader's type decides, where form and row are the writer's.
+    pub read-back : (w r : T) (a : A) → K .form w ≡ K .form r → K .row w ≡ K .row r → Holds K w a → K .wellFormed r ≡ true
+        → decoded K r (K .encoding (K .row w) a) ≡ cond (K .inType r a) (done (K .textOf a) (K .count (K .row w) a)) (refused Refusal.Membership)
+    unfolding decoded judgedOctets judgedAs compared
+    read-back w r a f y h g = simp (← y, ← f, g, L .octets-own w a h, h .real, equal-test (K .encoding (K .row w) a) (K .encoding (K .row w) a) refl)
+
+    -- A type's own values are read back.
+    pub round-trip : (t : T) (a : A) → Holds K t a → decoded K t (K .encoding (K .row t) a) ≡ done (K .textOf a) (K .count (K .row t) a)
+    round-trip t a h = simp (h .inside) at (read-back t t a refl refl h (h .formed))
+
+    -- "two values of one type never share an encoding"
+    pub one-encoding : (t : T) (a b : A) → Holds K t a → Holds K t b → K .encoding (K .row t) a ≡ K .encoding (K .row t) b → a ≡ b
+    one-encoding t a b h k e =
+        let p = L .octets-own t a h in
+        let q = L .octets-own t b k in
+        cc
+
+    pub demand-2 : (t : T) (text : List ℕ) (a : A) → Holds K t a → K .readText (K .form t) text ≡ some a → Demand2 K t text a
+    demand-2 t text a h e = record {
+      encodes = λ room l. rw (encoded-own t text a h e) (Outcomes.enough (K .encoding (K .row t) a) room (K .count (K .row t) a) l);
+      decodes = λ room l. rw (round-trip t a h) (Outcomes.enough (K .textOf a) room (K .count (K .row t) a) l);
+    }
+
+    -- The same of the octets and the bit count that were sent.
+    as-sent : (w r : T) (a : A) → K .form w ≡ K .form r → K .row w ≡ K .row r → Holds K w a → K .wellFormed r ≡ true
+        → (octets : List ℕ) (bits : Bits) → _≡_ {A = Answer} (done (K .encoding (K .row w) a) (K .count (K .row w) a)) (done octets bits)
+        → decoded K r octets ≡ cond (K .inType r a) (done (K .textOf a) bits) (refused Refusal.Membership)
+    as-sent w r a f y h g octets bits e =
+        let s : K .encoding (K .row w) a ≡ octets = cc in
+        let c : K .count (K .row w) a ≡ bits = cc in
+        rw (← s, ← c) (read-back w r a f y h g)
+
+    pub demand-3 : (w r : T) (text room : List ℕ) → K .form w ≡ K .form r → K .row w ≡ K .row r → K .wellFormed r ≡ true
+        → outcomeOf (encoded K w text) room .number ≡ 0 → Demand3 K w r text room
+    unfolding sent
+    demand-3 w r text room f y g e =
+        let o = Outcomes.result-told (encoded K w text) room e in
+        let x = encoded-only w text _ _ o in
+        let a = x .0 in
+        let b = as-sent w r a f y (x .1) g _ _ (x .3) in
+        record {
+          value = a;
+          read = x .2;
+          held = x .1;
+          returns = λ i room2 l. rw (b, i) (Outcomes.enough (K .textOf a) room2 (outcomeOf (encoded K w text) room .bits) l);
+          refuses = λ i room2. rw (b, i) (Outcomes.none Refusal.Membership room2);
+        }
+
+module _ {T F R A : Type 0} (K : Kind T F R A) (t : T) (octets : List ℕ) where
+  -- The decoder's answer has its cause, ..
+  pub judged : Judged K t octets (decoded K t octets)
+  unfolding decoded judgedOctets judgedAs compared
+  judged = formed (K .wellFormed t) refl
+    where
+      same : (a : A) → Holds K t a → K .readOctets (K .row t) (K .form t) octets ≡ some a
+          → (b : Bool) → eqList octets (K .encoding (K .row t) a) ≡ b
+          → Judged K t octets (cond b (done (K .textOf a) (K .count (K .row t) a)) (refused Refusal.Encoding))
+      same a h r true b = zero a h r (equal octets (K .encoding (K .row t) a) b)
+      same a h r false b = six a h r (λ q. let d = equal-test octets (K .encoding (K .row t) a) q in absurd (let z : _≡_ {A = ℕ} 0 1 = cc in omega arith))
+
+      inside : (a : A) → K .wellFormed t ≡ true → K .readOctets (K .row t) (K .form t) octets ≡ some a → K .exists a ≡ true
+          → (b : Bool) → K .inType t a ≡ b → Judged K t octets (cond b (compared K t octets a) (refused Refusal.Membership))
+      inside a w r e true b = same a (record { formed = w; real = e; inside = b }) r (eqList octets (K .encoding (K .row t) a)) refl
+      inside a w r e false b = five a w r e b
+
+      real : (a : A) → K .wellFormed t ≡ true → K .readOctets (K .row t) (K .form t) octets ≡ some a
+          → (b : Bool) → K .exists a ≡ b → Judged K t octets (cond b (cond (K .inType t a) (compared K t octets a) (refused Refusal.Membership)) (refused Refusal.Existence))
+      real a w r true b = inside a w r b (K .inType t a) refl
+      real a w r false b = four a w r b
+
+      reads : K .wellFormed t ≡ true → (o : Option A) → K .readOctets (K .row t) (K .form t) octets ≡ o → Judged K t octets (judgedOctets K t octets o)
+      reads w none r = three w r
+      reads w (some a) r = real a w r (K .exists a) refl
+
+      formed : (b : Bool) → K .wellFormed t ≡ b
+          → Judged K t octets (cond b (judgedOctets K t octets (K .readOctets (K .row t) (K .form t) octets)) (refused Refusal.Settings))
+      formed true b = reads b (K .readOctets (K .row t) (K .form t) octets) refl
+      formed false b = one b
+
+  -- .. and no other answer has one.
+  pub judged-only : (answer : Answer) → Judged K t octets answer → decoded K t octets ≡ answer
+  unfolding decoded judgedOctets judgedAs compared
+  judged-only answer (one w) = simp w
+  judged-only answer (three w r) = simp (w, r)
+  judged-only answer (four a w r e) = simp (w, r, e)
+  judged-only answer (five a w r e i) = simp (w, r, e, i)
+  judged-only answer (six a h r n) = go (eqList octets (K .encoding (K .row t) a)) refl
+    where
+      go : (b : Bool) → eqList octets (K .encoding (K .row t) a) ≡ b → decoded K t octets ≡ refused Refusal.Encoding
+      go true b = absurd (n (equal octets (K .encoding (K .row t) a) b))
+      go false b = simp (h .formed, r, h .real, h .inside, b)
+  judged-only answer (zero a h r q) = simp (h .formed, r, h .real, h .inside, equal-test octets (K .encoding (K .row t) a) q)

@@ -1,0 +1,27 @@
+-- A kind of value with an encoding: what "The seven numbers" ask of it.
+use Prim.Native.Nat.{ℕ}
+use mathlib.Core.Bool.{Bool}
+use mathlib.Core.List.{List}
+use Rattle.answers.specs.declared.counts.Bits.{Bits}
+
+-- What a reader gives: a value, or nothing.
+pub data Option (A : Type 0) : Type 0 where
+  some : A → Option A
+  none : Option A
+
+-- Types T have forms F and rows R; a type's values are among A, its texts are of its form, and they are encoded by its row.
+pub record Kind (T F R A : Type 0) : Type 0 where
+  -- a type that settings or a name can give
+  pub wellFormed : T → Bool
+  pub form : T → F
+  pub row : T → R
+  -- "What exists", and what is in a type
+  pub exists : A → Bool
+  pub inType : T → A → Bool
+  -- the canonical text, and what a text gives at a form
+  pub textOf : A → List ℕ
+  pub readText : F → List ℕ → Option A
+  -- the octets with their bit count, and what octets give at a form, however they should have been written
+  pub encoding : R → A → List ℕ
+  pub count : R → A → Bits
+  pub readOctets : R → F → List ℕ → Option A

@@ -1,0 +1,1 @@
+// What an encoder and a decoder answer, for any kind of value and any encoding of it, as definitions.
