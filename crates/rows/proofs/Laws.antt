@@ -1,3 +1,4 @@
 -- The laws of the rows.
 pub mod Scratch
 pub mod Rows
+pub mod Found
