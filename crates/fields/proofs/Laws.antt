@@ -1,2 +1,3 @@
 -- The laws of bits and fields.
 pub mod Cases
+pub mod Bits
