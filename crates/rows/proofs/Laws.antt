@@ -1,4 +1,3 @@
 -- The laws of the rows.
-pub mod Scratch
 pub mod Rows
 pub mod Found

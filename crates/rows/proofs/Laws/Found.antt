@@ -25,12 +25,12 @@ use Rattle.fields.specs.Integers.{within, half}
 use Rattle.fields.specs.Fields.{Field, Ranged, Free}
 use Rattle.fields.specs.Readings.{Found, found, nothing, Reading, give, _>>=_, aRanged, aFree, require, over}
 use Rattle.fields.proofs.Laws.Cases.{by-ltb}
+use Rattle.fields.proofs.Laws.Paths.{Paths, paths-over, paths-then, paths-require, paths-give}
 use Rattle.rows.specs.declared.YearRow.{YearRow}
 use Rattle.rows.specs.Fields.{otherYear, choiceOfYear, yearFields, dayFields, clockFields, longFraction, fractionFields, hoursField, differenceFields, zoneFields}
 use Rattle.rows.specs.Readings.{readChoice, readYear, readDay, readDate, readClock, natural, readExtended, readFraction, readMinutes, differenceAt, readZone, readTime, readValue}
 use Rattle.rows.specs.Ranges.{fromOne, dayCarried, dateCarried, clockCarried, fractionCarried, hoursCarried, zoneCarried, timeCarried, carried}
 use Rattle.rows.specs.Loose.{looseYear, looseFraction, looseDate, looseTime, looseFields}
-use Rattle.rows.proofs.Laws.Scratch.{Paths, paths-over, paths-then}
 
 -- Years: what fields that were read say of them.
 pub record YearFrom (row : YearRow) (fs : List Field) (y : ℤ) : Type 0 where
@@ -137,12 +137,9 @@ pub record FractionFrom (digits : ℕ) (fs : List Field) (fraction : ℕ) : Type
 
 fraction-test : (n f : ℕ) (fs : List Field) → (ltb f (10 ^ suc n) ≡ true → FractionFrom (suc n) fs f)
     → Paths (require (ltb f (10 ^ suc n)) (give f)) (λ gs. FractionFrom (suc n) (fs ++ gs))
-unfolding Paths require
-fraction-test n f fs h = go (ltb f (10 ^ suc n)) h
-  where
-    go : (b : Bool) → (b ≡ true → FractionFrom (suc n) fs f) → Paths (require b (give f)) (λ gs. FractionFrom (suc n) (fs ++ gs))
-    go true h = simp append-nil (h refl)
-    go false h = tt
+fraction-test n f fs h =
+    paths-require (ltb f (10 ^ suc n)) (give f) _ (λ t.
+    paths-give f (λ gs. FractionFrom (suc n) (fs ++ gs)) (simp append-nil (h t)))
 
 fraction-paths : (digits : ℕ) → Paths (readFraction digits) (FractionFrom digits)
 unfolding Paths readFraction readExtended natural aRanged aFree _>>=_ looseFraction fractionFields longFraction fractionCarried within half

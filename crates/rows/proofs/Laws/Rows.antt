@@ -9,7 +9,6 @@ use lib.IntN.{ℤ, pos, negsuc}
 use borrow.Author.Tests.{lt-ltb, le-ltb, leb-true, ltb-true}
 use Rattle.calendar.specs.Years.{astronomicalOf, yearAt}
 use Rattle.calendar.specs.declared.dates.Date.{Date}
-use Rattle.calendar.proofs.Laws.Bools.{both}
 use Rattle.calendar.proofs.Laws.Years.{year-back}
 use Rattle.texts.specs.Forms.{yearOf, dateForm, clockForm, zoneForm, timeForm, valueForm}
 use Rattle.texts.specs.declared.forms.ZoneForm.{ZoneForm}
@@ -21,13 +20,13 @@ use Rattle.texts.specs.declared.values.Zone.{Zone}
 use Rattle.fields.specs.Integers.{within}
 use Rattle.fields.specs.Fields.{Field, Ranged, Free}
 use Rattle.fields.specs.Readings.{Found, found, nothing, Reading, give, _>>=_, aRanged, aFree, require, over}
-use Rattle.fields.proofs.Laws.Cases.{by-ltb}
+use Rattle.fields.proofs.Laws.Cases.{by-ltb, both}
+use Rattle.fields.proofs.Laws.Readings.{over-bind, over-ranged, over-free}
 use Rattle.rows.specs.declared.YearRow.{YearRow}
 use Rattle.rows.specs.Fields.{otherYear, choiceOfYear, yearFields, dayFields, dateFields, clockFields, longFraction, fractionFields, hoursField, differenceFields, zoneFields, timeFields, fieldsOf}
 use Rattle.rows.specs.Readings.{readChoice, readYear, readDay, readDate, readClock, natural, readExtended, readFraction, readMinutes, differenceAt, readZone, readTime, readValue}
 use Rattle.rows.specs.Ranges.{fromOne, dayCarried, dateCarried, clockCarried, fractionCarried, hoursCarried, zoneCarried, timeCarried, carried}
 use Rattle.rows.specs.Loose.{looseYear, looseFraction, looseDate, looseTime, looseFields}
-use Rattle.rows.proofs.Laws.Scratch.{over-bind, over-ranged, over-free}
 
 -- What `carried` says of the parts.
 pub from-one : (highest n : ℕ) → fromOne highest n ≡ true → (1 ≤ n) × (n ≤ highest)
