@@ -1,3 +1,5 @@
 -- The laws of the rows.
 pub mod Rows
 pub mod Found
+pub mod Widths
+pub mod SameRows
