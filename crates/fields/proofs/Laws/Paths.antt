@@ -10,7 +10,7 @@ use Rattle.fields.specs.Integers.{within}
 use Rattle.fields.specs.Fields.{Field, Ranged, Free}
 use Rattle.fields.specs.Readings.{Found, found, nothing, Reading, give, ranged, free, refuse, _>>=_, aRanged, aFree, require, over}
 use Rattle.fields.proofs.Laws.Cases.{by-test}
-use Rattle.fields.proofs.Laws.Readings.{nothing-not, found-value, found-more}
+use Rattle.fields.proofs.Laws.Found.{nothing-not, found-value, found-more}
 
 -- On every way through the reading, the fields that led there and what is given have the property.
 unfoldable pub Paths : {A : Type 0} → Reading A → (List Field → A → Type 0) → Type 0

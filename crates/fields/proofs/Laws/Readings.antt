@@ -12,20 +12,7 @@ use Rattle.fields.specs.Integers.{within}
 use Rattle.fields.specs.Fields.{Field, Ranged, Free}
 use Rattle.fields.specs.Readings.{Found, found, nothing, onward, Reading, give, ranged, free, refuse, _>>=_, aRanged, aFree, require, readRanged, readFree, run, over}
 use Rattle.fields.proofs.Laws.Cases.{by-test}
-
--- Nothing is not something; what was found is one thing, and what is left is one rest.
-module _ {X A : Type 0} where
-  pub nothing-not : {a : A} {s : List X} {C : Type 0} → nothing ≡ found a s → C
-  nothing-not e = absurd (let z : _≡_ {A = ℕ} 0 1 = cc in omega arith)
-
-  pub found-value : {a b : A} {s t : List X} → found a s ≡ found b t → a ≡ b
-  found-value e = cc
-
-  pub found-rest : {a b : A} {s t : List X} → found a s ≡ found b t → s ≡ t
-  found-rest e = cc
-
-  pub found-more : {a b : A} {x : X} {s : List X} {C : Type 0} → found a (x ∷ s) ≡ found b [] → C
-  found-more e = absurd (let z : _≡_ {A = ℕ} 0 1 = cc in omega arith)
+use Rattle.fields.proofs.Laws.Found.{nothing-not, found-value, found-more}
 
 -- ---- one after the other
 
