@@ -25,6 +25,7 @@ use Rattle.fields.specs.Integers.{within, half}
 use Rattle.fields.specs.Fields.{Field, Ranged, Free}
 use Rattle.fields.specs.Readings.{Found, found, nothing, Reading, give, _>>=_, aRanged, aFree, require, over}
 use Rattle.fields.proofs.Laws.Cases.{by-ltb}
+use Rattle.fields.proofs.Laws.Integers.{within-true, within-in}
 use Rattle.fields.proofs.Laws.Paths.{Paths, paths-over, paths-then, paths-require, paths-give}
 use Rattle.rows.specs.declared.YearRow.{YearRow}
 use Rattle.rows.specs.Fields.{otherYear, choiceOfYear, yearFields, dayFields, clockFields, longFraction, fractionFields, hoursField, differenceFields, zoneFields}
@@ -39,8 +40,8 @@ pub record YearFrom (row : YearRow) (fs : List Field) (y : ℤ) : Type 0 where
   pub is : fs ≡ looseYear other row y
 
 near-within : (n : ℕ) → n < 2500 → within 4 (pos n) ≡ true
-unfolding within half
-near-within n h = lt-ltb n (2 ^ (8 * 4 - 1)) (omega arith)
+unfolding half
+near-within n h = within-in 4 (pos n) (omega arith)
 
 near : (n c r v : ℕ) → n < 2500 → choiceOfYear (pos n) ≡ Ranged 4 c ∷ Ranged r v ∷ [] → YearFrom YearRow.Year (Ranged 4 c ∷ Ranged r v ∷ []) (pos n)
 unfolding looseYear yearFields
@@ -85,8 +86,8 @@ down : (v : ℕ) → v + 1 - 1 ≡ v
 down v = omega arith
 
 year-same : (y : ℤ) → within 4 y ≡ true → astronomicalOf (yearAt y) ≡ y
-unfolding within half
-year-same y h = let l : mag y < 2147483648 = ltb-true (mag y) (2 ^ (8 * 4 - 1)) h in year-at y (omega arith)
+unfolding half
+year-same y h = let l : mag y < 2147483648 = within-true 4 y h in year-at y (omega arith)
 
 day-paths : (row : YearRow) (form : DateForm) (fs : List Field) (y : ℤ) → YearFrom row fs y
     → Paths (readDay (yearAt y) form) (λ gs. DateFrom row form (fs ++ gs))
@@ -142,8 +143,8 @@ fraction-test n f fs h =
     paths-give f (λ gs. FractionFrom (suc n) (fs ++ gs)) (simp append-nil (h t)))
 
 fraction-paths : (digits : ℕ) → Paths (readFraction digits) (FractionFrom digits)
-unfolding Paths readFraction readExtended natural aRanged aFree _>>=_ looseFraction fractionFields longFraction fractionCarried within half
-fraction-paths zero = record { fits = refl; long = false; is = refl }
+unfolding Paths readFraction readExtended natural aRanged aFree _>>=_ looseFraction fractionFields longFraction fractionCarried
+fraction-paths zero = record { fits = near-within 0 (omega arith); long = false; is = refl }
 fraction-paths (suc n) = extended
   where
     integer : (z : ℤ) → within 4 z ≡ true → Paths (natural z >>= λ f. require (ltb f (10 ^ suc n)) (give f)) (λ gs. FractionFrom (suc n) (Ranged 2 1 ∷ Free z ∷ gs))
@@ -152,7 +153,7 @@ fraction-paths (suc n) = extended
 
     extended : (x : ℕ) → x < 2 → Paths (readExtended x >>= λ f. require (ltb f (10 ^ suc n)) (give f)) (λ gs. FractionFrom (suc n) (Ranged 2 x ∷ gs))
     extended zero l = λ f h. fraction-test n f (Ranged 2 0 ∷ Ranged 1000 f ∷ [])
-        (λ t. record { fits = simp (t, lt-ltb f (2 ^ (8 * 4 - 1)) (omega arith)); long = false; is = simp (lt-ltb f 1000 h) })
+        (λ t. record { fits = simp (t, near-within f (omega arith)); long = false; is = simp (lt-ltb f 1000 h) })
     extended (suc zero) l = integer
     extended (suc (suc x)) l = absurd (omega arith)
 

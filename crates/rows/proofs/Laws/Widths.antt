@@ -13,25 +13,10 @@ use Rattle.texts.specs.declared.values.Clock.{Clock}
 use Rattle.texts.specs.declared.values.Time.{Time}
 use Rattle.texts.specs.declared.values.Value.{Value}
 use Rattle.texts.specs.declared.values.Zone.{Zone}
-use Rattle.fields.specs.Integers.{within, fewest}
 use Rattle.fields.specs.Fields.{Field, Ranged, Free, width, binaryDigits, fieldWidth, bitCount}
+use Rattle.fields.proofs.Laws.Fields.{count-append, free-width}
 use Rattle.rows.specs.declared.YearRow.{YearRow}
 use Rattle.rows.specs.Fields.{otherYear, choiceOfYear, yearFields, dayFields, dateFields, clockFields, longFraction, fractionFields, hoursField, differenceFields, zoneFields, timeFields, fieldsOf}
-
-count-append : (fs gs : List Field) → bitCount (fs ++ gs) ≡ bitCount fs + bitCount gs
-unfolding bitCount
-count-append [] gs = omega arith
-count-append (f ∷ fs) gs = let e = count-append fs gs in omega arith
-
-fewest-le : (z : ℤ) → fewest z ≤ 4
-unfolding fewest
-fewest-le z = go (within 1 z) (within 2 z) (within 3 z)
-  where
-    go : (a b c : Bool) → cond a 1 (cond b 2 (cond c 3 4)) ≤ 4
-    go true b c = omega arith
-    go false true c = omega arith
-    go false false true = omega arith
-    go false false false = omega arith
 
 at-most : (t : Bool) (n : ℕ) (fs gs : List Field) → bitCount fs ≤ n → bitCount gs ≤ n → bitCount (cond t fs gs) ≤ n
 at-most true n fs gs f g = f
@@ -39,7 +24,7 @@ at-most false n fs gs f g = g
 
 other-most : (y : ℤ) → bitCount (otherYear y) ≤ 42
 unfolding otherYear bitCount fieldWidth width binaryDigits
-other-most y = let h = fewest-le y in omega arith
+other-most y = let h = free-width y in omega arith
 
 pub year-most : (row : YearRow) (y : ℤ) → bitCount (yearFields row y) ≤ 42
 unfolding yearFields choiceOfYear bitCount fieldWidth width binaryDigits
@@ -50,7 +35,7 @@ year-most YearRow.Year (pos y) =
     (at-most (ltb y 2005) 42 _ _ (omega arith)
     (at-most (ltb y 2021) 42 _ _ (omega arith)
     (at-most (ltb y 2277) 42 _ _ (omega arith) o)))
-year-most YearRow.AnyYear y = let h = fewest-le y in omega arith
+year-most YearRow.AnyYear y = let h = free-width y in omega arith
 
 pub day-most : (date : Date) → bitCount (dayFields date) ≤ 9
 unfolding dayFields bitCount fieldWidth width binaryDigits
@@ -76,7 +61,7 @@ clock-most (Clock.HMS h m s) = omega arith
 
 long-most : (f : ℕ) → bitCount (longFraction f) ≤ 41
 unfolding longFraction bitCount fieldWidth width binaryDigits
-long-most f = let h = fewest-le (pos f) in omega arith
+long-most f = let h = free-width (pos f) in omega arith
 
 pub fraction-most : (digits f : ℕ) → bitCount (fractionFields digits f) ≤ 41
 unfolding fractionFields bitCount fieldWidth width binaryDigits
