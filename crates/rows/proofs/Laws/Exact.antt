@@ -1,7 +1,7 @@
 -- What is read from bits and from octets: exactly the loose spellings of a value, whatever follows; and what was laid out.
-use mathlib.Core.Path.{_≡_, refl, sym, ap, _∙_}
-use mathlib.Core.Bool.{Bool, true, false}
-use mathlib.Core.List.{List, [], _++_}
+use mathlib.Core.Path.{_≡_}
+use mathlib.Core.Bool.{true, false}
+use mathlib.Core.List.{List, _++_}
 use Prim.Native.Nat.{ℕ, _*_, _-_}
 use lib.ListN.{length, replicate}
 use Rattle.answers.specs.Counts.{octetsFor}
@@ -10,15 +10,15 @@ use Rattle.texts.specs.declared.forms.Form.{Form}
 use Rattle.texts.specs.declared.values.Value.{Value}
 use Rattle.fields.specs.Bits.{BitString, octetsOf, unpacked}
 use Rattle.fields.specs.Fields.{layout}
-use Rattle.fields.specs.Readings.{found, run, over}
-use Rattle.fields.specs.Spelled.{Spelled, spelledFields, wellSpelled, spelledBits}
+use Rattle.fields.specs.Readings.{found, run}
+use Rattle.fields.specs.Spelled.{spelledFields}
 use Rattle.fields.proofs.Laws.Bits.{unpacked-octets}
 use Rattle.fields.proofs.Laws.Readings.{run-spelled, run-only, run-layout}
 use Rattle.rows.specs.declared.YearRow.{YearRow}
 use Rattle.rows.specs.Fields.{fieldsOf}
 use Rattle.rows.specs.Readings.{readValue, readOctets}
 use Rattle.rows.specs.Ranges.{carried}
-use Rattle.rows.specs.Loose.{looseFields, Readable}
+use Rattle.rows.specs.Loose.{Readable}
 use Rattle.rows.proofs.Laws.Rows.{over-loose, over-fields}
 use Rattle.rows.proofs.Laws.Found.{drives-only}
 

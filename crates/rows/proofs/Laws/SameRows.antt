@@ -1,7 +1,7 @@
 -- Types that select the same rows have one row of years, and with the same number of fraction digits one form.
-use mathlib.Core.Path.{_≡_, refl, sym, ap, _∙_}
+use mathlib.Core.Path.{_≡_, refl, ap}
 use mathlib.Core.Bool.{Bool, true, false, cond, _&&_}
-use Prim.Native.Nat.{ℕ, _+_}
+use Prim.Native.Nat.{_+_}
 use native.Mathlib.Omega.{arith}
 use lib.Dec.{eqb}
 use borrow.Author.Tests.{eqb-true}
@@ -19,7 +19,6 @@ use Rattle.types.specs.declared.types.Parts.{Parts}
 use Rattle.types.specs.declared.types.Years.{Years}
 use Rattle.types.specs.declared.types.«Type».{«Type» as Ty}
 use Rattle.fields.proofs.Laws.Cases.{both}
-use Rattle.rows.specs.declared.YearRow.{YearRow}
 use Rattle.rows.specs.Fields.{yearsRow, rowOfParts, rowOf}
 
 -- The setting of a setting's number is that setting.

@@ -1,8 +1,7 @@
 -- How many bits a value takes at most.
-use mathlib.Core.Path.{_≡_, refl, sym, ap, _∙_}
 use mathlib.Core.Bool.{Bool, true, false, cond}
-use mathlib.Core.List.{List, [], _∷_, _++_}
-use Prim.Native.Nat.{ℕ, zero, suc, _+_, _*_, _-_, _≤_, _<_}
+use mathlib.Core.List.{List}
+use Prim.Native.Nat.{ℕ, zero, suc, _-_, _≤_}
 use native.Mathlib.Omega.{arith}
 use lib.Dec.{ltb}
 use lib.IntN.{ℤ, pos, negsuc}
@@ -13,7 +12,7 @@ use Rattle.texts.specs.declared.values.Clock.{Clock}
 use Rattle.texts.specs.declared.values.Time.{Time}
 use Rattle.texts.specs.declared.values.Value.{Value}
 use Rattle.texts.specs.declared.values.Zone.{Zone}
-use Rattle.fields.specs.Fields.{Field, Ranged, Free, width, binaryDigits, fieldWidth, bitCount}
+use Rattle.fields.specs.Fields.{Field, width, binaryDigits, fieldWidth, bitCount}
 use Rattle.fields.proofs.Laws.Fields.{count-append, free-width}
 use Rattle.rows.specs.declared.YearRow.{YearRow}
 use Rattle.rows.specs.Fields.{otherYear, choiceOfYear, yearFields, dayFields, dateFields, clockFields, longFraction, fractionFields, hoursField, differenceFields, zoneFields, timeFields, fieldsOf}
@@ -87,7 +86,7 @@ time-most time =
     let z = zone-most (time .zone) in
     simp count-append (omega arith)
 
--- A date with a year of four octets in choice 3, HMS with a long fraction, and a difference with minutes take the most.
+-- Of them 51 are the date's, 17 the clock's, 41 the fraction's and 12 the difference's.
 pub longest : (row : YearRow) (v : Value) → bitCount (fieldsOf row v) ≤ 121
 unfolding fieldsOf
 longest row (Value.Date d) = let h = date-most row d in omega arith
