@@ -2,19 +2,22 @@
 use mathlib.Core.Path.{_≡_, refl, ap, sym, _∙_}
 use mathlib.Core.Bool.{Bool, true, false, cond, _&&_, false≢true}
 use mathlib.Core.List.{List, [], _∷_, _++_, append-assoc}
-use Prim.Native.Nat.{ℕ, _*_, _≤_}
+use Prim.Native.Nat.{ℕ, _*_, _-_, _≤_}
 use lib.Dec.{leb, ltb, eqb}
 use lib.IntN.{ℤ}
+use lib.ListN.{replicate}
 use borrow.Author.Tests.{le-leb, lt-ltb, leb-true, ltb-true, eqb-true, eq-eqb}
-use Rattle.fields.specs.Bits.{BitString, bitsOf}
+use Rattle.answers.specs.Counts.{octetsFor}
+use Rattle.fields.specs.Bits.{BitString, bitsOf, octetsOf, unpacked}
 use Rattle.fields.specs.Integers.{within, fewest, twos}
-use Rattle.fields.specs.Fields.{Field, Ranged, Free, width, fieldBits, layout}
+use Rattle.fields.specs.Fields.{Field, Ranged, Free, width, fieldBits, layout, bitCount}
 use Rattle.fields.specs.Readings.{Found, found, nothing, onward, Reading, give, ranged, free, refuse, _>>=_, aRanged, aFree, require, readRanged, readFree, run, over}
 use Rattle.fields.specs.Spelled.{Spelled, Range, Integer, spelledFields, wellSpelled, spelledBits}
 use Rattle.fields.proofs.Laws.Cases.{by-test, both}
 use Rattle.fields.proofs.Laws.Found.{nothing-not, found-value, found-rest, found-more}
+use Rattle.fields.proofs.Laws.Bits.{unpacked-octets}
 use Rattle.fields.proofs.Laws.Integers.{within-more, fewest-fits}
-use Rattle.fields.proofs.Laws.Fields.{read-ranged, read-ranged-only, read-free, read-free-only}
+use Rattle.fields.proofs.Laws.Fields.{length-layout, read-ranged, read-ranged-only, read-free, read-free-only}
 
 -- ---- one after the other
 
@@ -224,3 +227,10 @@ strict-well refuse fs a e = nothing-not e
 pub run-layout : {A : Type 0} (t : Reading A) (fs : List Field) (s : BitString) (a : A) → over t fs ≡ found a [] → run t (layout fs ++ s) ≡ found a s
 run-layout t fs s a e =
     rw (layout-strict fs) (run-spelled t (strict fs) s a (strict-well t fs a e) (rw (fields-strict fs) e))
+
+-- The same from octets: the zeros that fill the last one are left.
+pub run-octets : {A : Type 0} (t : Reading A) (fs : List Field) (a : A) → over t fs ≡ found a []
+    → run t (unpacked (octetsOf (layout fs))) ≡ found a (replicate (8 * octetsFor (record { count = bitCount fs }) .count - bitCount fs) false)
+run-octets t fs a e =
+    rw (unpacked-octets (layout fs), length-layout fs)
+    (run-layout t fs (replicate (8 * octetsFor (record { count = bitCount fs }) .count - bitCount fs) false) a e)
