@@ -1,1 +1,6 @@
 -- The laws of the rows.
+pub mod Rows
+pub mod Found
+pub mod Exact
+pub mod Widths
+pub mod SameRows
