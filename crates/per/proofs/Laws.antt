@@ -1,0 +1,2 @@
+-- The laws of unaligned PER.
+pub mod Checked

@@ -1,0 +1,2 @@
+-- What a reader must believe of unaligned PER.
+pub mod Per

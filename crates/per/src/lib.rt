@@ -1,0 +1,1 @@
+// Unaligned PER.
