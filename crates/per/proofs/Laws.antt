@@ -1,2 +1,4 @@
 -- The laws of unaligned PER.
+pub mod Carried
+pub mod Per
 pub mod Checked

@@ -1,0 +1,121 @@
+-- Unaligned PER meets what is asked of a kind, and so demands 2 and 3.
+use mathlib.Core.Path.{_≡_, refl, ap, sym, _∙_}
+use mathlib.Core.Bool.{Bool, true, false, cond}
+use mathlib.Core.List.{List}
+use Prim.Native.Nat.{ℕ}
+use native.Mathlib.Omega.{arith}
+use Rattle.answers.specs.Outcomes.{Answer, done, refused, outcomeOf}
+use Rattle.answers.specs.declared.counts.Bits.{Bits}
+use Rattle.answers.specs.declared.refusals.Refusal.{Refusal}
+use Rattle.texts.specs.Forms.{valueForm}
+use Rattle.texts.specs.Texts.{readOf, render, textOf}
+use Rattle.texts.specs.Times.{canonical}
+use Rattle.texts.specs.declared.forms.Form.{Form}
+use Rattle.texts.specs.declared.texts.TextRead.{TextRead}
+use Rattle.texts.specs.declared.values.Spelling.{Spelling}
+use Rattle.texts.specs.declared.values.Value.{Value}
+use Rattle.types.specs.Rows.{sameRows}
+use Rattle.types.specs.Types.{formOf, fractionDigits, wellFormed}
+use Rattle.types.specs.declared.types.«Type».{«Type» as Ty}
+use Rattle.values.specs.Admission.{admitted, judged, judgedRead}
+use Rattle.values.specs.Existence.{existsValue}
+use Rattle.values.specs.Holding.{holdsOf, inType}
+use Rattle.values.specs.declared.admission.Admission.{Admission}
+use Rattle.values.proofs.Laws.Existing.{held-read}
+use Rattle.values.proofs.Laws.Holding.{holds-both, in-type}
+use Rattle.fields.specs.Bits.{BitString, unpacked}
+use Rattle.fields.specs.Readings.{Found, found, nothing}
+use Rattle.rows.specs.Fields.{rowOf}
+use Rattle.rows.specs.Loose.{Readable}
+use Rattle.rows.specs.Readings.{readOctets}
+use Rattle.rows.specs.declared.YearRow.{YearRow}
+use Rattle.rows.proofs.Laws.Exact.{read-octets, reads-only, reads-all}
+use Rattle.rows.proofs.Laws.SameRows.{same-rows, same-form}
+use Rattle.kinds.specs.Kinds.{Option, some, none}
+use Rattle.kinds.specs.Coding.{judgedAs, judgedText, encoded}
+use Rattle.kinds.specs.Demands.{Holds, Lawful, Demand2, Accepted, Demand3, Judged}
+use Rattle.kinds.proofs.Laws.Coding as Coding
+use Rattle.per.specs.Per.{ofText, ofBits, encodingOf, countOf, per, perEncoded, perDecoded}
+use Rattle.per.proofs.Laws.Carried.{held-carried}
+
+held-by : (t : Ty) (v : Value) → Holds per t v → holdsOf t v ≡ true
+held-by t v h = holds-both t v (h .real) (h .inside)
+
+-- any text of a value that a type holds is read as it
+pub text-read : (t : Ty) (v : Value) → Holds per t v → (s : Spelling) → ofText (readOf (formOf t) (render s v)) ≡ some v
+text-read t v h s = ap ofText (held-read t v (held-by t v h) s)
+
+octets-read : (t : Ty) (v : Value) → Holds per t v → ofBits (readOctets (rowOf t) (formOf t) (encodingOf (rowOf t) v)) ≡ some v
+unfolding encodingOf
+octets-read t v h = rw (← in-type t v (h .inside) .0) (ap ofBits (read-octets (rowOf t) v (held-carried t v (held-by t v h))))
+
+pub per-lawful : Lawful per
+per-lawful = record { text-own = λ t v h. text-read t v h canonical; octets-own = octets-read }
+
+-- ---- demand 2
+
+-- Any text of a value that a type holds becomes exactly the standard's octets, with their bit count, and these come back as the
+-- canonical text.
+pub per-demand-2 : (t : Ty) (v : Value) → Holds per t v → (s : Spelling) → Demand2 per t (render s v) v
+per-demand-2 t v h s = Coding.demand-2 per per-lawful t (render s v) v h (text-read t v h s)
+
+-- Whatever is accepted is the encoding of the value returned.
+pub per-accepted : (t : Ty) (octets text : List ℕ) {bits : Bits} → perDecoded t octets ≡ done text bits → Accepted per t octets text
+per-accepted t octets text {bits} e = Coding.decoded-only per t octets text bits e
+
+-- Two values of one type never share an encoding.
+pub per-one-encoding : (t : Ty) (a b : Value) → Holds per t a → Holds per t b → encodingOf (rowOf t) a ≡ encodingOf (rowOf t) b → a ≡ b
+per-one-encoding t a b h k e = Coding.one-encoding per per-lawful t a b h k e
+
+-- ---- demand 3
+
+-- Types with the same rows and digits, with whatever years and limits.
+pub per-demand-3 : (w r : Ty) (text room : List ℕ) → sameRows w r ≡ true → fractionDigits w ≡ fractionDigits r → wellFormed r ≡ true
+    → outcomeOf (perEncoded w text) room .number ≡ 0 → Demand3 per w r text room
+per-demand-3 w r text room s n f e = Coding.demand-3 per per-lawful w r text room (same-form w r s n) (same-rows w r s) f e
+
+-- ---- "Each is given exactly then."
+
+pub per-judged : (t : Ty) (octets : List ℕ) → Judged per t octets (perDecoded t octets)
+per-judged t octets = Coding.judged per t octets
+
+pub per-judged-only : (t : Ty) (octets : List ℕ) (answer : Answer) → Judged per t octets answer → perDecoded t octets ≡ answer
+per-judged-only t octets answer j = Coding.judged-only per t octets answer j
+
+-- A value is read exactly where a loose spelling of it stands in front, whatever follows.
+pub per-reads : (row : YearRow) (form : Form) (octets : List ℕ) (v : Value) → ofBits (readOctets row form octets) ≡ some v
+    → (rest : BitString) × Readable row form v (unpacked octets) rest
+unfolding readOctets
+per-reads row form octets v e = go (readOctets row form octets) refl e
+  where
+    go : (g : Found Bool Value) → readOctets row form octets ≡ g → ofBits g ≡ some v → (rest : BitString) × Readable row form v (unpacked octets) rest
+    go (found w rest) r e = let q : w ≡ v = cc in (rest, reads-only row form v (unpacked octets) rest (rw (← q) r))
+    go nothing r e = absurd (let z : _≡_ {A = ℕ} 0 1 = cc in omega arith)
+
+pub per-reads-all : (row : YearRow) (form : Form) (octets : List ℕ) (v : Value) (rest : BitString) → Readable row form v (unpacked octets) rest
+    → ofBits (readOctets row form octets) ≡ some v
+unfolding readOctets
+per-reads-all row form octets v rest r = ap ofBits (reads-all row form v (unpacked octets) rest r)
+
+-- ---- the admission of a text, as the code has it
+
+-- What an admission answers: the encoding of the value, or the refusal.
+abbrev pub answerOf : YearRow → Admission → Answer
+answerOf row (Admission.Value v) = done (encodingOf row v) (countOf row v)
+answerOf row (Admission.Refused why) = refused why
+
+pub encoded-admitted : (t : Ty) (text : List ℕ) → perEncoded t text ≡ answerOf (rowOf t) (admitted t text)
+unfolding encoded judgedText judgedAs admitted judged
+encoded-admitted t text = formed (wellFormed t) (readOf (formOf t) text)
+  where
+    formed : (b : Bool) (r : TextRead) → cond b (judgedText per t (ofText r)) (refused Refusal.Settings)
+        ≡ answerOf (rowOf t) (cond b (judgedRead t r) (Admission.Refused Refusal.Settings))
+    formed false r = refl
+    formed true TextRead.NotOfForm = refl
+    formed true (TextRead.Value v s) = real (existsValue v) (inType t v)
+      where
+        real : (a b : Bool) → cond a (cond b (done (encodingOf (rowOf t) v) (countOf (rowOf t) v)) (refused Refusal.Membership)) (refused Refusal.Existence)
+            ≡ answerOf (rowOf t) (cond a (cond b (Admission.Value v) (Admission.Refused Refusal.Membership)) (Admission.Refused Refusal.Existence))
+        real false b = refl
+        real true false = refl
+        real true true = refl
