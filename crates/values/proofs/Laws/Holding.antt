@@ -13,8 +13,6 @@ use Rattle.calendar.specs.Years.{astronomicalOf}
 use Rattle.calendar.specs.declared.years.Year.{Year}
 use Rattle.calendar.specs.declared.dates.Date.{Date}
 use Rattle.texts.specs.declared.forms.DateForm.{DateForm}
-use Rattle.texts.specs.declared.forms.ClockForm.{ClockForm}
-use Rattle.texts.specs.declared.forms.ZoneForm.{ZoneForm}
 use Rattle.texts.specs.declared.forms.TimeForm.{TimeForm}
 use Rattle.texts.specs.declared.forms.Form.{Form}
 use Rattle.texts.specs.declared.values.Time.{Time}
@@ -26,7 +24,8 @@ use Rattle.types.specs.declared.types.Window.{Window}
 use Rattle.types.specs.declared.types.Parts.{Parts}
 use Rattle.types.specs.declared.types.«Type».{«Type» as Ty}
 use Rattle.texts.specs.Forms.{dateForm, timeForm, valueForm}
-use Rattle.types.specs.Numbers.{dateNumber, clockNumber, zoneNumber}
+use Rattle.types.specs.Numbers.{dateNumber, dateAt, clockNumber, clockAt, zoneNumber, zoneAt}
+use Rattle.types.proofs.Laws.Numbers.{date-back, clock-back, zone-back}
 use Rattle.types.specs.Types.{formOfParts, formOf}
 use Rattle.values.specs.Forms.{sameDateForm, sameTimeForm, sameForm}
 use Rattle.values.specs.Existence.{hoursOf, existsValue}
@@ -34,39 +33,6 @@ use Rattle.texts.specs.Forms.{yearOf}
 use Rattle.values.specs.Holding.{between, inBasic, inProleptic, inNegative, inFive, inYears, inWindow, admitsDate, admitsTime, admits, inType, holdsOf}
 use Rattle.answers.proofs.Laws.Outcomes.{by-number}
 use Rattle.values.proofs.Laws.Existence.{three}
-
--- the case of a number
-abbrev dateAt : ℕ → DateForm
-dateAt n =
-    cond (leb n 1) DateForm.Y
-    (cond (leb n 2) DateForm.YM
-    (cond (leb n 3) DateForm.YMD
-    (cond (leb n 4) DateForm.YD
-    (cond (leb n 5) DateForm.YW DateForm.YWD))))
-
-date-back : (form : DateForm) → dateAt (dateNumber form) ≡ form
-date-back DateForm.Y = refl
-date-back DateForm.YM = refl
-date-back DateForm.YMD = refl
-date-back DateForm.YD = refl
-date-back DateForm.YW = refl
-date-back DateForm.YWD = refl
-
-abbrev clockAt : ℕ → ClockForm
-clockAt n = cond (leb n 1) ClockForm.H (cond (leb n 2) ClockForm.HM ClockForm.HMS)
-
-clock-back : (form : ClockForm) → clockAt (clockNumber form) ≡ form
-clock-back ClockForm.H = refl
-clock-back ClockForm.HM = refl
-clock-back ClockForm.HMS = refl
-
-abbrev zoneAt : ℕ → ZoneForm
-zoneAt n = cond (leb n 1) ZoneForm.L (cond (leb n 2) ZoneForm.Z ZoneForm.LD)
-
-zone-back : (form : ZoneForm) → zoneAt (zoneNumber form) ≡ form
-zone-back ZoneForm.L = refl
-zone-back ZoneForm.Z = refl
-zone-back ZoneForm.LD = refl
 
 same-date : (f g : DateForm) → sameDateForm f g ≡ true → f ≡ g
 unfolding sameDateForm

@@ -1,0 +1,2 @@
+-- The laws of types.
+pub mod Numbers
