@@ -1,0 +1,2 @@
+-- Laws of groups, and of writing them.
+pub mod Groups
