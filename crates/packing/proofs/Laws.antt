@@ -1,2 +1,3 @@
 -- Laws of groups, and of writing them.
 pub mod Groups
+pub mod Writing

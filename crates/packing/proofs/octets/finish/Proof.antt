@@ -1,41 +1,42 @@
+-- `octets::finish` meets its contract.
+use native.Mathlib.Omega.{arith}
+use Rattle.packing.proofs.Laws.Writing.{finished-whole, finished-part, last-lt}
 use borrow.Author.Needs.{needs}
 use Rattle.packing.proofs.octets.finish.Statement.{statement}
 use Rattle.packing.proofs.octets.finish.Tie as tie
-use Rattle.packing.proofs.octets.finish.Reads as reads
-use Rattle.packing.proofs.octets.finish.Lts as lts
-use Rattle.packing.proofs.groups.power.Reads as power-reads
 
--- src/octets.rt:76:9
 returns : tie.Need-returns
-returns c = ?
+returns c =
+    let s = c .before .before in
+    finished-whole (s .args .out .now) (s .args .pen) (s .pre .0) (s .pre .1) (λ i. c .before .slice-known .given i .fits) (c .if1 .taken)
 
--- src/octets.rt:78:31
 sub-power : tie.Need-sub-power
 sub-power c = search needs
 
--- src/octets.rt:78:25
 power-requires : tie.Need-power-requires
 power-requires c κs = search needs
 
--- src/octets.rt:78:15
 mul-out : tie.Need-mul-out
-mul-out c = ?
+mul-out c =
+    let s = c .before .before .before .before in
+    let h = last-lt (s .args .out .now) (s .args .pen) (s .pre .0) (s .pre .1) (λ i. c .before .before .before .slice-known .given i .fits) _ (c .before .power .ensures) in
+    omega arith
 
--- src/octets.rt:78:14
 cast-out : tie.Need-cast-out
-cast-out c = ?
+cast-out c =
+    let s = c .before .before .before .before in
+    record { fits = last-lt (s .args .out .now) (s .args .pen) (s .pre .0) (s .pre .1) (λ i. c .before .before .before .slice-known .given i .fits) _ (c .before .power .ensures) }
 
--- src/octets.rt:78:5
 slice-write-out : tie.Need-slice-write-out
 slice-write-out c = search needs
 
--- src/octets.rt:68:1
 same-length : tie.Need-same-length
 same-length c = search needs
 
--- src/octets.rt:68:1
 returns-2 : tie.Need-returns-2
-returns-2 c = ?
+returns-2 c =
+    let s = c .before .before .before .before in
+    finished-part (s .args .out .now) (s .args .pen) (s .pre .0) (s .pre .1) (λ i. c .before .before .before .slice-known .given i .fits) _ (c .before .power .ensures) (omega arith)
 
 pub finish-spec : {M : Type 1} → statement M
 finish-spec =
