@@ -8,9 +8,6 @@ ghost use Rattle.fields.specs.Bits.{bitsOf};
 ghost use Rattle.fields.specs.Fields.{layout};
 ghost use Rattle.rows.specs.Fields.{choiceOfYear, yearFields, dayFields, dateFields};
 ghost use Rattle.packing.specs.Groups.{groupBits, Fits};
-use calendar::Date;
-use calendar::Distance;
-use calendar::Year;
 use crate::groups::Group;
 use crate::groups::field;
 use crate::groups::integer;
@@ -18,6 +15,9 @@ use crate::groups::join;
 use crate::groups::minus;
 use crate::groups::negative;
 use crate::groups::nothing;
+use calendar::Date;
+use calendar::Distance;
+use calendar::Year;
 use rows::YearRow;
 
 // Two choice bits and a year since the year 0000: 2005 to 2020, 2021 to 2276, 1749 to 2004, or another.

@@ -6,13 +6,13 @@ ghost use lib.ListN.{length};
 ghost use Rattle.packing.specs.Groups.{groupBits, Fits};
 ghost use Rattle.packing.specs.Writing.{Room, Ready, Put, Flushed, finished};
 ghost use Rattle.packing.specs.Packed.{packedBits, packedOf};
-use answers::Bits;
 use crate::dates::date_group;
 use crate::groups::Group;
 use crate::groups::nothing;
 use crate::groups::power;
 use crate::times::after_group;
 use crate::times::clock_group;
+use answers::Bits;
 use rows::YearRow;
 use texts::Value;
 

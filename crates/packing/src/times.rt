@@ -86,8 +86,5 @@ pub(crate) fn after_group(time: Time) -> Group
     ensures { λ r. ⌜ Fits 53 r ⌝ }
 {
     let zone = time.zone;
-    join(
-        fraction_group(time.digits, time.fraction),
-        zone_group(zone),
-    )
+    join(fraction_group(time.digits, time.fraction), zone_group(zone))
 }

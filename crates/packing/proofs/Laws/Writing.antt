@@ -5,7 +5,7 @@ use Prim.Native.Nat.{ℕ, suc, _+_, _-_, _*_, _/_, _%_, _^_, _≤_, _<_}
 use native.Mathlib.Numerals.{add-one}
 use native.Mathlib.Omega.{arith}
 use lib.Pow.{shl-lt}
-use lib.ListN.{length-append, getD, length, take, drop, set, take-append-drop}
+use lib.ListN.{length-append, getD, length, take, drop, set, replicate, take-append-drop}
 use lib.Seq.{length-take-le, getD-take, take-suc-set, set-split, drop-set-lt, drop-drop, append-snoc}
 use Rattle.answers.specs.Counts.{octetsFor}
 use Rattle.fields.specs.Bits.{BitString, bitsOf, numberIn, packed, octetsOf, unpacked}
@@ -95,10 +95,10 @@ module _ (out : List ℕ) (p : Pen) (ready : Ready p) (room : Room out (p .octet
       let f : octetsOf (written out p) ≡ take n out ++ (b ∷ []) = octets-written 1 (omega (arith, ready .few)) ∙ ap (λ (x : ℕ). take n out ++ (x ∷ [])) last in
       let l : length (take n out ++ (b ∷ [])) ≡ suc n = length-append (take n out) (b ∷ []) ∙ omega (arith, len) in
       sym (
-        ap (λ (o : List ℕ). o ++ drop (length o) out) f
-        ∙ ap (λ (j : ℕ). (take n out ++ (b ∷ [])) ++ drop j out) l
-        ∙ append-assoc (take n out) (b ∷ []) (drop (suc n) out)
-        ∙ sym (set-split out n b inside))
+      ap (λ (o : List ℕ). o ++ drop (length o) out) f
+      ∙ ap (λ (j : ℕ). (take n out ++ (b ∷ [])) ++ drop j out) l
+      ∙ append-assoc (take n out) (b ∷ []) (drop (suc n) out)
+      ∙ sym (set-split out n b inside))
 
 -- ---- from put to put
 
@@ -137,3 +137,20 @@ wrote-finish {room} {bs} {before} {p} w =
     let l : p .octets ≤ length (octetsOf bs) = rw (length-octets bs) (long (p .octets) (p .held) (length bs) (w .place)) in
     ap (λ (b : BitString). octetsOf b ++ drop (length (octetsOf b)) before) (w .bits)
     ∙ ap (λ (r : List ℕ). octetsOf bs ++ r) (kept before room (p .octets) (length (octetsOf bs)) l (w .rest))
+
+-- ---- groups in a buffer of zeros
+
+abbrev pub zeros : List ℕ
+zeros = replicate 16 0
+
+pub length-group : (g : Group) → length (groupBits g) ≡ g .width
+unfolding groupBits
+length-group g = length-bits (g .width) (g .number)
+
+-- The first bits are put at the front.
+pub wrote-first : {bs : BitString} {after : List ℕ} {r : Pen} → Put zeros (record { octets = 0; held = 0; acc = 0 }) bs after r → Wrote zeros bs after r
+unfolding bitsOf unpacked
+wrote-first f =
+    let start : Wrote zeros [] zeros (record { octets = 0; held = 0; acc = 0 }) =
+    record { ready = record { few = omega arith; small = omega arith }; bits = refl; place = refl; rest = refl; len = refl } in
+    wrote-put start f

@@ -1,85 +1,69 @@
+-- `octets::pack` meets its contract.
+use mathlib.Core.Path.{_≡_, sym, ap, _∙_}
+use mathlib.Core.List.{_++_, append-nil}
+use Rattle.fields.proofs.Laws.Fields.{layout-append}
+use Rattle.rows.specs.Fields.{timeFields, fieldsOf}
+use Rattle.packing.proofs.Laws.Packed.{packed-fields}
 use borrow.Author.Needs.{needs}
 use Rattle.packing.proofs.octets.pack.Statement.{statement}
 use Rattle.packing.proofs.octets.pack.Tie as tie
-use Rattle.packing.proofs.octets.pack.Reads as reads
-use Rattle.packing.proofs.octets.pack.Lts as lts
-use Rattle.packing.proofs.dates.date_group.Reads as date-group-reads
-use Rattle.packing.proofs.groups.nothing.Reads as nothing-reads
-use Rattle.packing.proofs.octets.write.Reads as write-reads
-use Rattle.packing.proofs.times.after_group.Reads as after-group-reads
-use Rattle.packing.proofs.times.clock_group.Reads as clock-group-reads
 
--- src/octets.rt:111:21
 enum-known-value : tie.Need-enum-known-value
 enum-known-value c = search needs
 
--- src/octets.rt:111:36
 date-group-requires : tie.Need-date-group-requires
 date-group-requires c κs = search needs
 
--- src/octets.rt:111:59
 nothing-requires : tie.Need-nothing-requires
 nothing-requires c κs = search needs
 
--- src/octets.rt:111:70
 nothing-requires-2 : tie.Need-nothing-requires-2
 nothing-requires-2 c κs = search needs
 
--- src/octets.rt:111:30
 write-requires : tie.Need-write-requires
 write-requires c κs = search needs
 
--- src/octets.rt:112:21
 enum-known-value-2 : tie.Need-enum-known-value-2
 enum-known-value-2 c = search needs
 
--- src/octets.rt:114:19
 nothing-requires-3 : tie.Need-nothing-requires-3
 nothing-requires-3 c κs = search needs
 
--- src/octets.rt:114:30
 clock-group-requires : tie.Need-clock-group-requires
 clock-group-requires c κs = search needs
 
--- src/octets.rt:114:50
 after-group-requires : tie.Need-after-group-requires
 after-group-requires c κs = search needs
 
--- src/octets.rt:114:13
 write-requires-2 : tie.Need-write-requires-2
 write-requires-2 c κs = search needs
 
--- src/octets.rt:116:25
 enum-known-value-3 : tie.Need-enum-known-value-3
 enum-known-value-3 c = search needs
 
--- src/octets.rt:118:19
 date-group-requires-2 : tie.Need-date-group-requires-2
 date-group-requires-2 c κs = search needs
 
--- src/octets.rt:118:42
 clock-group-requires-2 : tie.Need-clock-group-requires-2
 clock-group-requires-2 c κs = search needs
 
--- src/octets.rt:118:62
 after-group-requires-2 : tie.Need-after-group-requires-2
 after-group-requires-2 c κs = search needs
 
--- src/octets.rt:118:13
 write-requires-3 : tie.Need-write-requires-3
 write-requires-3 c κs = search needs
 
--- src/octets.rt:107:1
 returns : tie.Need-returns
-returns c = ?
+unfolding fieldsOf
+returns c = c .write .ensures ∙ packed-fields _ _ (rw (c .before .before .before .before .before .value .given .1, c .before .before .before .date-group .ensures .0, c .before .before .nothing .ensures .0, c .before .nothing2 .ensures .0, append-nil))
 
--- src/octets.rt:107:1
 returns-2 : tie.Need-returns-2
-returns-2 c = ?
+unfolding timeFields fieldsOf
+returns-2 c = c .write2 .ensures ∙ packed-fields _ _ (rw (c .before .before .before .before .before .value2 .given .1, c .before .before .before .nothing3 .ensures .0, c .before .before .clock-group .ensures .0, c .before .after-group .ensures .0) (sym (layout-append _ _)))
 
--- src/octets.rt:107:1
 returns-3 : tie.Need-returns-3
-returns-3 c = ?
+unfolding timeFields fieldsOf
+returns-3 c = c .write3 .ensures ∙ packed-fields _ _ (rw (c .before .before .before .before .before .value3 .given .1, c .before .before .before .date-group2 .ensures .0, c .before .before .clock-group2 .ensures .0, c .before .after-group2 .ensures .0) (simp layout-append))
 
 pub pack-spec : {M : Type 1} → statement M
 pack-spec =
