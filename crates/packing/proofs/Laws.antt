@@ -1,0 +1,4 @@
+-- Laws of groups, and of writing them.
+pub mod Groups
+pub mod Writing
+pub mod Packed

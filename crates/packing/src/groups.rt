@@ -1,0 +1,115 @@
+// Groups of bits: whole fields, joined into one number before they are written.
+ghost use mathlib.Core.Path.{_≡_};
+ghost use mathlib.Core.List.{[], _++_};
+ghost use Prim.Native.Nat.{_+_, _-_, _^_, _≤_, _<_};
+ghost use lib.IntN.{pos, negsuc};
+ghost use Rattle.answers.specs.Counts.{octetsFor};
+ghost use Rattle.fields.specs.Bits.{bitsOf};
+ghost use Rattle.fields.specs.Fields.{Free, fieldBits};
+ghost use Rattle.packing.specs.Groups.{groupBits, integerBits, Fits};
+use answers::Bits;
+
+// So many bits, which a number has as its low ones and nothing above them.
+pub struct Group {
+    pub number: u64,
+    pub width: u32,
+}
+
+// 2 to the power k.
+pub(crate) fn power(k: u32) -> u64
+    requires { ⌜ k < 64 ⌝ }
+    ensures { λ r. ⌜ r ≡ 2 ^ k ⌝ }
+{
+    1u64 << k
+}
+
+// How much a is more than b, 0 where it is not.
+pub(crate) fn minus(a: u64, b: u64) -> u64
+    ensures { λ r. ⌜ r ≡ a - b ⌝ }
+{
+    if a < b {
+        return 0;
+    }
+    a - b
+}
+
+// No bits.
+pub(crate) fn nothing() -> Group
+    ensures { λ r. ⌜ groupBits r ≡ [] ⌝ }
+    ensures { λ r. ⌜ Fits 0 r ⌝ }
+{
+    Group {
+        number: 0,
+        width: 0,
+    }
+}
+
+// The low bits of a number.
+pub(crate) fn field(width: u32, number: u64) -> Group
+    requires { ⌜ width ≤ 56 ⌝ }
+    ensures { λ r. ⌜ groupBits r ≡ bitsOf width number ⌝ }
+    ensures { λ r. ⌜ Fits width r ⌝ }
+{
+    Group {
+        number: number % power(width),
+        width,
+    }
+}
+
+// One group after the other.
+pub(crate) fn join(first: Group, second: Group) -> Group
+    requires { ⌜ first .width + second .width ≤ 56 ⌝ }
+    requires { ⌜ Fits (first .width) first ⌝ }
+    requires { ⌜ Fits (second .width) second ⌝ }
+    ensures { λ r. ⌜ groupBits r ≡ groupBits first ++ groupBits second ⌝ }
+    ensures { λ r. ⌜ Fits (first .width + second .width) r ⌝ }
+{
+    Group {
+        number: first.number * power(second.width) + second.number,
+        width: first.width + second.width,
+    }
+}
+
+// How many bits of two's complement an integer takes, in whole octets: n, or -(n + 1).
+fn integer_width(n: u64) -> u32
+    ensures { λ r. ⌜ r ≡ integerBits n ⌝ }
+    ensures { λ r. ⌜ r ≤ 32 ⌝ }
+{
+    if n < 128 {
+        return 8;
+    }
+    if n < 32768 {
+        return 16;
+    }
+    if n < 8388608 {
+        return 24;
+    }
+    32
+}
+
+// An octet that counts octets, and those: the low bits of a number.
+fn counted(width: u32, number: u64) -> Group
+    requires { ⌜ width ≤ 32 ⌝ }
+    ensures { λ r. ⌜ groupBits r ≡ bitsOf 8 (octetsFor (record { count = width }) .count) ++ bitsOf width number ⌝ }
+    ensures { λ r. ⌜ Fits 40 r ⌝ }
+{
+    let octets = Bits { count: width }.octets();
+    join(field(8, octets.count as u64), field(width, number))
+}
+
+// The free integer n.
+pub(crate) fn integer(n: u64) -> Group
+    ensures { λ r. ⌜ groupBits r ≡ fieldBits (Free (pos n)) ⌝ }
+    ensures { λ r. ⌜ Fits 40 r ⌝ }
+{
+    counted(integer_width(n), n)
+}
+
+// The free integer -(n + 1).
+pub(crate) fn negative(n: u64) -> Group
+    ensures { λ r. ⌜ groupBits r ≡ fieldBits (Free (negsuc n)) ⌝ }
+    ensures { λ r. ⌜ Fits 40 r ⌝ }
+{
+    let width = integer_width(n);
+    counted(width, minus(power(width) - 1, n))
+}
