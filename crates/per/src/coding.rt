@@ -1,0 +1,69 @@
+ghost use mathlib.Core.Path.{_≡_};
+ghost use Rattle.answers.specs.Outcomes.{done, outcomeOf, roomOf};
+ghost use Rattle.kinds.specs.Coding.{judgedAs, compared};
+ghost use Rattle.rows.specs.Fields.{rowOf, yearsRow};
+ghost use Rattle.values.specs.Existence.{existsValue};
+ghost use mathlib.Core.Bool.{true};
+ghost use Rattle.per.specs.Per.{per as perKind, encodingOf, countOf, perEncoded, perDecoded};
+use answers::Outcome;
+use answers::deliver;
+use packing::pack;
+use rows::YearRow;
+use texts::Value;
+use types::Parts;
+use types::Type;
+use types::Years;
+use values::Admission;
+use values::admit;
+
+// How the row of these years has them.
+fn years_row(years: Years) -> YearRow
+    ensures { λ r. ⌜ r ≡ yearsRow years ⌝ }
+{
+    match years {
+        Years::Plain(_) => YearRow::Year,
+        Years::Signed(_) => YearRow::AnyYear,
+    }
+}
+
+// How a type's row has its years.
+fn row_of(t: Type) -> YearRow
+    ensures { λ r. ⌜ r ≡ rowOf t ⌝ }
+{
+    let parts = t.parts;
+    match parts {
+        Parts::Date(date) => {
+            let years = date.years;
+            years_row(years)
+        }
+        Parts::Time(_) => YearRow::Year,
+        Parts::DateTime(date, _) => {
+            let years = date.years;
+            years_row(years)
+        }
+    }
+}
+
+// Puts the octets of a value at the front of the room.
+fn write_octets(row: YearRow, value: Value, room: &mut [u8]) -> Outcome
+    ensures { λ r. ⌜ r ≡ outcomeOf (done (encodingOf row value) (countOf row value)) (now (room .entry)) ⌝ }
+    ensures { λ _. ⌜ now (room .exit) ≡ roomOf (done (encodingOf row value) (countOf row value)) (now (room .entry)) ⌝ }
+{
+    let packed = pack(row, value);
+    let octets = packed.octets;
+    let bits = packed.bits;
+    let length = bits.octets().count;
+    deliver(&octets[..length], bits, room)
+}
+
+// Puts the octets of a text's value under a type at the front of the room, or refuses.
+pub fn encode(t: Type, text: &[u8], room: &mut [u8]) -> Outcome
+    ensures { λ r. ⌜ r ≡ outcomeOf (perEncoded t (now (text .entry))) (now (room .entry)) ⌝ }
+    ensures { λ _. ⌜ now (room .exit) ≡ roomOf (perEncoded t (now (text .entry))) (now (room .entry)) ⌝ }
+{
+    let admission = admit(t, text);
+    match admission {
+        Admission::Value(value) => write_octets(row_of(t), value, room),
+        Admission::Refused(why) => Outcome::refused(why),
+    }
+}
