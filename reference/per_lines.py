@@ -1,18 +1,16 @@
 """Test lines on unaligned PER, and the replies that document 01 settles.
 
-`per_lines.py lines` writes the lines, `per_lines.py replies` reads such lines and writes a reply for each.
-
 `WLR;TYPE;INPUT` asks for the number of "The seven numbers" and, after 0, the bit count and the result. W is `e` to
 encode INPUT, a text, or `d` to decode it, octets as whole pairs of hex digits; L is one octet of value_lines.py's menu
 of limits; R is the room: `a` to `z` are 0 to 25 octets, `A` to `Z` are 26 to 51, `*` is 64. TYPE ends at the second
-semicolon, and INPUT is all that follows. Any other line has the reply `?`. A line ends in a newline, and the last one
-need not.
+semicolon, and INPUT is all that follows. Any other line has the reply `?`.
 """
 
 import itertools
 import re
 import string
 import sys
+from pathlib import Path
 
 import value_lines
 from per import DAY_TIME_FIELDS, decode, encode, fill, free_integer_bits, free_integer_length, number_bits, octet_bits
@@ -20,7 +18,7 @@ from per import read_octets, value_bits
 from settings import is_refused, read_type
 from texts import read_text
 from value_lines import DATES, DATE_TAILS, MENU, TIMES, WINDOWS, YEAR_CHOICES, ZONES
-from value_lines import date_time_type, date_type, split_lines, time_text, time_type
+from value_lines import date_time_type, date_type, time_text, time_type
 
 ROOMS = {letter.encode(): length for length, letter in enumerate(string.ascii_letters)} | {b"*": 64}
 ROOM_OF = {length: letter for letter, length in ROOMS.items()}
@@ -28,6 +26,8 @@ ROOM_OF = {length: letter for letter, length in ROOMS.items()}
 HEX = re.compile(b"(?:[0-9A-Fa-f]{2})*")
 
 LONGEST_LINE = 1024
+
+VECTORS = Path(__file__).resolve().parent.parent / "vectors" / "per.txt"
 
 BASIC, PROLEPTIC, NEGATIVE, L5 = YEAR_CHOICES[:4]
 BASIC_PROLEPTIC, NEGATIVE_L5 = YEAR_CHOICES[4], YEAR_CHOICES[6]
@@ -626,6 +626,14 @@ def other_lines():
         yield b"e0" + octet + b";DATE;1748-12-31"
 
 
+def vectors():
+    """The outside tool's vectors, both ways."""
+    for line_of_file in VECTORS.read_bytes().splitlines():
+        type_text, text, octets = line_of_file.split(b";")
+        yield b"e0*;" + type_text + b";" + text
+        yield b"d0*;" + type_text + b";" + octets
+
+
 def last_line():
     """The line without a newline at its end."""
     yield decode_line(b"DATE-TIME", fill(bits_of(b"DATE-TIME", b"2009-12-31T23:59:60")), b"9", b"t")
@@ -635,7 +643,7 @@ SECTIONS = (
     checked_values, year_ends, near_years, fractions, whole_times, differences, difference_fields, date_times, windows,
     no_hour_24, boundaries, changed_octets, filling, free_integers, free_integer_lengths, other_choice, fraction_fields,
     fractions_at_hour_24, date_fields, time_fields, rooms, causes_in_octets, causes_in_years, causes_in_texts, cross_table,
-    refused_types, restrictions_without_place, any_values, any_octets, long_inputs, small_hex, other_lines, last_line,
+    refused_types, restrictions_without_place, any_values, any_octets, long_inputs, small_hex, vectors, other_lines, last_line,
 )
 
 
@@ -672,18 +680,3 @@ def reply(question):
     if work == b"d" and HEX.fullmatch(parts[2]):
         return reply_on_octets(parts[1], MENU[limits], bytes.fromhex(parts[2].decode("ascii")), ROOMS[room])
     return b"?"
-
-
-def main():
-    """Writes the lines, or the replies to lines from standard input."""
-    if sys.argv[1:] == ["lines"]:
-        sys.stdout.buffer.write(b"\n".join(all_lines()))
-    elif sys.argv[1:] == ["replies"]:
-        for question in split_lines(sys.stdin.buffer.read()):
-            sys.stdout.buffer.write(reply(question) + b"\n")
-    else:
-        sys.exit("usage: per_lines.py lines | per_lines.py replies")
-
-
-if __name__ == "__main__":
-    main()

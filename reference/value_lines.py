@@ -1,10 +1,8 @@
 """Test lines on types and texts, and the replies that document 01 settles.
 
-`value_lines.py lines` writes the lines, `value_lines.py replies` reads such lines and writes a reply for each.
-
 `LIMITS;TYPE;TEXT` asks for the number of "The seven numbers" and, after 0, the canonical text. LIMITS is one octet of
 the menu below; TYPE ends at the second semicolon. `=;TYPE;TYPE` asks whether two types "select the same rows", and for
-their numbers of fraction digits. Any other line has the reply `?`. A line ends in a newline, and the last one need not.
+their numbers of fraction digits. Any other line has the reply `?`.
 """
 
 import itertools
@@ -688,24 +686,3 @@ def reply(question):
     if limits not in MENU:
         return b"?"
     return reply_on_text(MENU[limits], type_text, text)
-
-
-def split_lines(octets):
-    """The lines; one without a newline at its end still counts."""
-    lines = octets.split(b"\n")
-    return lines[:-1] if lines[-1] == b"" else lines
-
-
-def main():
-    """Writes the lines, or the replies to lines from standard input."""
-    if sys.argv[1:] == ["lines"]:
-        sys.stdout.buffer.write(b"\n".join(all_lines()))
-    elif sys.argv[1:] == ["replies"]:
-        for question in split_lines(sys.stdin.buffer.read()):
-            sys.stdout.buffer.write(reply(question) + b"\n")
-    else:
-        sys.exit("usage: value_lines.py lines | value_lines.py replies")
-
-
-if __name__ == "__main__":
-    main()

@@ -1,5 +1,5 @@
 """Compares each row of the proved tables with the independent reference: the calendar's years and dates, the
-types and their rows, and the texts under types. Prints the first row that differs and exits 1, or prints
+types and their rows, the texts under types, and unaligned PER. Prints the first row that differs and exits 1, or prints
 nothing."""
 
 import re
@@ -9,6 +9,7 @@ from pathlib import Path
 ROOT = Path(__file__).resolve().parent.parent
 sys.path.insert(0, str(ROOT / "reference"))
 import gregorian  # noqa: E402
+import per  # noqa: E402
 import settings  # noqa: E402
 import texts  # noqa: E402
 
@@ -30,6 +31,21 @@ LIMITS = {
 
 TEXTS = ROOT / "crates/values/proofs/Laws/Checked.antt"
 TEXT = re.compile(r'^ +row "([^"]*)" "([^"]*)" (\d) "([^"]*)" ∷', re.M)
+
+TIMES = ROOT / "crates/values/proofs/Laws/CheckedExistence.antt"
+LOCAL = re.compile(r"^ +time \(local \(Clock\.\w+((?: \d+)+)\) (\d+) (\d+)\) (true|false) ∷", re.M)
+ZONED = re.compile(r"^ +time \((ahead|behind) (\d+) (\d+)\) (true|false) ∷", re.M)
+UTC = re.compile(r"^ +time utc (true|false) ∷", re.M)
+
+PER = ROOT / "crates/per/proofs/Laws/Checked.antt"
+VALUE = re.compile(r'^ +value "([^"]*)" "([^"]*)" (\d) "([^"]*)" (\d+) ∷', re.M)
+CAUSE = re.compile(r'^ +cause "([^"]*)" (\w+) "([^"]*)" (\d+) (\d) ∷', re.M)
+PER_LIMITS = {
+    "noLimits": settings.NO_LIMITS,
+    "from2000": settings.Limits((2000, 2010), False),
+    "noHour24": settings.Limits(None, True),
+}
+ROOM = 64
 
 
 def rows(table, *patterns):
@@ -91,7 +107,44 @@ def check_texts():
         expect(TEXTS, f"{type_text} {text}", (int(number), canonical.encode()), (judged[0], judged[1] or b""))
 
 
+def time_exists(fields, digits, fraction, zone, difference=None):
+    """Whether a time exists, which no text shows where its fraction has more digits than it says."""
+    if digits > 9 or fraction >= 10**digits:
+        return False
+    time = texts.Time(fields, texts.Fraction(fraction, digits) if digits else None, zone, difference)
+    return texts.value_exists(texts.Value(None, time))
+
+
+def check_times():
+    """Which times exist."""
+    local, zoned, utc = rows(TIMES, LOCAL, ZONED, UTC)
+    for fields, digits, fraction, said in local:
+        there = time_exists(tuple(map(int, fields.split())), int(digits), int(fraction), "L")
+        expect(TIMES, f"{fields} {digits} {fraction}", said, truth(there))
+    for sign, hours, minutes, said in zoned:
+        difference = texts.Difference(b"-" if sign == "behind" else b"+", int(hours), int(minutes))
+        expect(TIMES, f"{sign} {hours} {minutes}", said, truth(time_exists((12,), 0, 0, "LD", difference)))
+    for said in utc:
+        expect(TIMES, "utc", said, truth(time_exists((12,), 0, 0, "Z")))
+
+
+def check_per():
+    """The number, octets and bits of each value, and back; and the number of each cause."""
+    values, causes = rows(PER, VALUE, CAUSE)
+    for type_text, text, number, octets, bits in values:
+        said = (int(number), bytes.fromhex(octets), int(bits))
+        expect(PER, f"{type_text} {text}", said, per.encode(type_text.encode(), settings.NO_LIMITS, text.encode(), ROOM))
+        if number == "0":
+            back = per.decode(type_text.encode(), settings.NO_LIMITS, bytes.fromhex(octets), ROOM)
+            expect(PER, f"{type_text} {octets}", (0, text.encode(), int(bits)), back)
+    for type_text, limits, octets, room, number in causes:
+        found = per.decode(type_text.encode(), PER_LIMITS[limits], bytes.fromhex(octets), int(room))
+        expect(PER, f"{type_text} {octets}", int(number), found[0])
+
+
 if __name__ == "__main__":
     check_calendar()
     check_types()
     check_texts()
+    check_times()
+    check_per()

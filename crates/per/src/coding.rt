@@ -6,7 +6,9 @@ ghost use Rattle.values.specs.Existence.{existsValue};
 ghost use mathlib.Core.Bool.{true};
 ghost use Rattle.per.specs.Per.{per as perKind, encodingOf, countOf, perEncoded, perDecoded};
 use answers::Outcome;
+use answers::Refusal;
 use answers::deliver;
+use lists::words::same;
 use packing::pack;
 use rows::YearRow;
 use texts::Value;
@@ -15,6 +17,9 @@ use types::Type;
 use types::Years;
 use values::Admission;
 use values::admit;
+use values::in_type;
+use values::value_exists;
+use values::write_text;
 
 // How the row of these years has them.
 fn years_row(years: Years) -> YearRow
@@ -66,4 +71,35 @@ pub fn encode(t: Type, text: &[u8], room: &mut [u8]) -> Outcome
         Admission::Value(value) => write_octets(row_of(t), value, room),
         Admission::Refused(why) => Outcome::refused(why),
     }
+}
+
+// Puts the text of a value at the front of the room, where the octets that it was read from are its own.
+fn compare(t: Type, octets: &[u8], value: Value, room: &mut [u8]) -> Outcome
+    requires { ⌜ existsValue value ≡ true ⌝ }
+    ensures { λ r. ⌜ r ≡ outcomeOf (compared perKind t (now (octets .entry)) value) (now (room .entry)) ⌝ }
+    ensures { λ _. ⌜ now (room .exit) ≡ roomOf (compared perKind t (now (octets .entry)) value) (now (room .entry)) ⌝ }
+{
+    let packed = pack(row_of(t), value);
+    let own = packed.octets;
+    let bits = packed.bits;
+    let length = bits.octets().count;
+    if !same(octets, &own[..length]) {
+        return Outcome::refused(Refusal::Encoding);
+    }
+    write_text(value, bits, room)
+}
+
+// The answer to octets that give a value: whether it exists, whether it is in the type, and whether the octets are
+// the encoder's.
+fn judge(t: Type, octets: &[u8], value: Value, room: &mut [u8]) -> Outcome
+    ensures { λ r. ⌜ r ≡ outcomeOf (judgedAs perKind t value (compared perKind t (now (octets .entry)) value)) (now (room .entry)) ⌝ }
+    ensures { λ _. ⌜ now (room .exit) ≡ roomOf (judgedAs perKind t value (compared perKind t (now (octets .entry)) value)) (now (room .entry)) ⌝ }
+{
+    if !value_exists(value) {
+        return Outcome::refused(Refusal::Existence);
+    }
+    if !in_type(t, value) {
+        return Outcome::refused(Refusal::Membership);
+    }
+    compare(t, octets, value, room)
 }

@@ -20,6 +20,7 @@ use Rattle.types.specs.declared.types.«Type».{«Type» as Ty}
 use Rattle.values.specs.Admission.{admitted, judged, judgedRead}
 use Rattle.values.specs.Existence.{existsValue}
 use Rattle.values.specs.Holding.{holdsOf, inType}
+use Rattle.values.specs.Written.{written}
 use Rattle.values.specs.declared.admission.Admission.{Admission}
 use Rattle.values.proofs.Laws.Existing.{held-read}
 use Rattle.values.proofs.Laws.Holding.{holds-both, in-type}
@@ -97,7 +98,12 @@ pub per-reads-all : (row : YearRow) (form : Form) (octets : List ℕ) (v : Value
 unfolding readOctets
 per-reads-all row form octets v rest r = ap ofBits (reads-all row form v (unpacked octets) rest r)
 
--- ---- the admission of a text, as the code has it
+-- ---- as the code has it
+
+-- The text of a value that exists, as it is written.
+pub written-text : (bits : Bits) (v : Value) → existsValue v ≡ true → written bits v ≡ done (textOf v) bits
+unfolding written
+written-text bits v e = simp e
 
 -- What an admission answers: the encoding of the value, or the refusal.
 abbrev pub answerOf : YearRow → Admission → Answer
