@@ -1,6 +1,6 @@
 -- Numbers joined, free integers, and the layouts of few fields.
 use mathlib.Core.Path.{_≡_, refl, sym, ap, ap₂, _∙_, subst}
-use mathlib.Core.Bool.{cond}
+use mathlib.Core.Bool.{Bool, true, false, cond}
 use mathlib.Core.Logic.{_≢_}
 use mathlib.Core.List.{List, [], _∷_, _++_, append-nil}
 use Prim.Native.Nat.{ℕ, zero, suc, _+_, _-_, _*_, _/_, _^_, _≤_, _<_}
@@ -14,7 +14,7 @@ use Rattle.answers.specs.Counts.{octetsFor}
 use Rattle.calendar.specs.Years.{distanceOf}
 use Rattle.calendar.specs.declared.years.Distance.{Distance}
 use Rattle.fields.specs.Bits.{BitString, bitsOf}
-use Rattle.fields.specs.Integers.{half, within, fewest, twos}
+use Rattle.fields.specs.Integers.{half, within as inOctets, fewest, twos}
 use Rattle.fields.specs.Fields.{Field, Ranged, Free, fieldBits, layout}
 use Rattle.fields.proofs.Laws.Bits.{bits-join}
 use Rattle.rows.specs.Fields.{longFraction, fractionFields, differenceFields}
@@ -34,6 +34,17 @@ module _ (a b x y p : ℕ) (e : p ≡ 2 ^ b) (high : x < 2 ^ a) (low : y < 2 ^ b
 
 -- ---- free integers
 
+-- Their width by the code's tests.
+pub integer-chain : (n : ℕ) → integerBits n ≡ cond (ltb n 128) 8 (cond (ltb n 32768) 16 (cond (ltb n 8388608) 24 32))
+unfolding integerBits fewest inOctets half
+integer-chain n = go (ltb n 128) (ltb n 32768) (ltb n 8388608)
+  where
+    go : (a b c : Bool) → 8 * cond a 1 (cond b 2 (cond c 3 4)) ≡ cond a 8 (cond b 16 (cond c 24 32))
+    go true b c = refl
+    go false true c = refl
+    go false false true = refl
+    go false false false = refl
+
 free-bits : (z : ℤ) (w v : ℕ) → w ≡ 8 * fewest z → v ≡ twos (fewest z) z
     → bitsOf 8 (octetsFor (record { count = w }) .count) ++ bitsOf w v ≡ fieldBits (Free z)
 unfolding octetsFor fieldBits
@@ -48,7 +59,7 @@ integer-bits n w e = free-bits (pos n) w n e refl
 
 pub negative-bits : (n w p v : ℕ) → w ≡ integerBits n → p ≡ 2 ^ w → v ≡ p - 1 - n
     → bitsOf 8 (octetsFor (record { count = w }) .count) ++ bitsOf w v ≡ fieldBits (Free (negsuc n))
-unfolding integerBits fewest within twos
+unfolding integerBits fewest inOctets twos
 negative-bits n w p v e f g =
     let k : v ≡ 2 ^ w - suc n = omega arith in
     free-bits (negsuc n) w v e (k ∙ ap (λ (m : ℕ). 2 ^ m - suc n) e)
