@@ -1,0 +1,3 @@
+-- Laws for code that reads octets by places.
+pub mod Numbers
+pub mod Steps
