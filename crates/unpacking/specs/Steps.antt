@@ -1,5 +1,5 @@
 -- What the code's answers say, as answers of readings: a place stands for the bits from there on.
-use Prim.Native.Nat.{ℕ, _+_, _*_, _<_, _≤_}
+use Prim.Native.Nat.{ℕ, _+_, _*_}
 use mathlib.Core.Bool.{Bool}
 use mathlib.Core.List.{List}
 use lib.IntN.{ℤ, pos, negℤ}
@@ -23,13 +23,22 @@ use Rattle.unpacking.specs.declared.times.ZoneStep.{ZoneStep}
 abbrev pub rest : List ℕ → ℕ → BitString
 rest s at = drop at (unpacked s)
 
--- The number of count octets.
+-- The bits of so many octets.
+abbrev pub bitsIn : ℕ → ℕ
+bitsIn count = 8 * count
+
+-- The number of so many octets.
 unfoldable pub numberAt : List ℕ → ℕ → ℕ → ℕ
-numberAt s first count = numberIn (8 * count) (rest s (8 * first))
+numberAt s first count = numberIn (bitsIn count) (rest s (bitsIn first))
 
 abbrev pub integerOf : Integer → ℤ
 integerOf (Integer.Natural n) = pos n
 integerOf (Integer.Negative n) = negℤ (pos n)
+
+-- How far a negative integer lies below 0; 1 where it is none.
+abbrev pub below : Integer → ℕ
+below (Integer.Natural n) = 1
+below (Integer.Negative n) = n
 
 -- A year that is counted from the lowest of its range.
 unfoldable pub nearYear : ℕ → ℕ → Reading ℤ
@@ -70,27 +79,27 @@ abbrev pub seenTime : List ℕ → TimeStep → Found Bool Time
 seenTime s (TimeStep.Got t p) = found t (rest s p)
 seenTime s TimeStep.Nothing = nothing
 
--- A number below n, and a place up to q; of the other answers, the place.
-abbrev pub Bounded : ℕ → ℕ → Step → Type 0
-Bounded n q (Step.Got v p) = (v < n) × (p ≤ q)
-Bounded n q Step.Nothing = Unit {0}
+-- The number that was read, and the place after what was read; 0 where there is none.
+abbrev pub numberOf : Step → ℕ
+numberOf (Step.Got n p) = n
+numberOf Step.Nothing = 0
 
-abbrev pub IntegerBounded : ℕ → IntegerStep → Type 0
-IntegerBounded q (IntegerStep.Got i p) = p ≤ q
-IntegerBounded q IntegerStep.Nothing = Unit {0}
+abbrev pub place : Step → ℕ
+place (Step.Got n p) = p
+place Step.Nothing = 0
 
-abbrev pub DateBounded : ℕ → DateStep → Type 0
-DateBounded q (DateStep.Got d p) = p ≤ q
-DateBounded q DateStep.Nothing = Unit {0}
+abbrev pub integerPlace : IntegerStep → ℕ
+integerPlace (IntegerStep.Got i p) = p
+integerPlace IntegerStep.Nothing = 0
 
-abbrev pub ClockBounded : ℕ → ClockStep → Type 0
-ClockBounded q (ClockStep.Got c p) = p ≤ q
-ClockBounded q ClockStep.Nothing = Unit {0}
+abbrev pub stepBelow : IntegerStep → ℕ
+stepBelow (IntegerStep.Got i p) = below i
+stepBelow IntegerStep.Nothing = 1
 
-abbrev pub ZoneBounded : ℕ → ZoneStep → Type 0
-ZoneBounded q (ZoneStep.Got z p) = p ≤ q
-ZoneBounded q ZoneStep.Nothing = Unit {0}
+abbrev pub datePlace : DateStep → ℕ
+datePlace (DateStep.Got d p) = p
+datePlace DateStep.Nothing = 0
 
-abbrev pub TimeBounded : ℕ → TimeStep → Type 0
-TimeBounded q (TimeStep.Got t p) = p ≤ q
-TimeBounded q TimeStep.Nothing = Unit {0}
+abbrev pub clockPlace : ClockStep → ℕ
+clockPlace (ClockStep.Got c p) = p
+clockPlace ClockStep.Nothing = 0

@@ -7,7 +7,7 @@ ghost use Rattle.texts.specs.declared.forms.DateForm.{DateForm as Form};
 ghost use Rattle.fields.specs.Fields.{width as widthOf};
 ghost use Rattle.fields.specs.Readings.{run};
 ghost use Rattle.rows.specs.Readings.{readChoice, readYear, readDay, readDate};
-ghost use Rattle.unpacking.specs.Steps.{rest, nearYear, integerOf, seenInteger, seenDate, IntegerBounded, DateBounded};
+ghost use Rattle.unpacking.specs.Steps.{rest, nearYear, integerOf, seenInteger, seenDate, integerPlace, datePlace};
 use crate::numbers::Integer;
 use crate::numbers::IntegerStep;
 use crate::numbers::Step;
@@ -41,7 +41,7 @@ fn near_year(octets: &[u8], at: u32, width: u32, range: u32, lowest: u32) -> Int
     requires { ⌜ width ≡ widthOf range ⌝ }
     requires { ⌜ (range ≤ 256) × (lowest ≤ 2021) ⌝ }
     ensures { λ r. ⌜ seenInteger (now (octets .entry)) r ≡ run (nearYear range lowest) (rest (now (octets .entry)) at) ⌝ }
-    ensures { λ r. ⌜ IntegerBounded (at + width) r ⌝ }
+    ensures { λ r. ⌜ integerPlace r ≤ at + 40 ⌝ }
 {
     let Step::Got(number, next) = ranged(octets, at, width, range) else {
         return IntegerStep::Nothing;
@@ -53,7 +53,7 @@ fn near_year(octets: &[u8], at: u32, width: u32, range: u32, lowest: u32) -> Int
 fn chosen_year(octets: &[u8], at: u32, choice: u32) -> IntegerStep
     requires { ⌜ at ≤ 160 ⌝ }
     ensures { λ r. ⌜ seenInteger (now (octets .entry)) r ≡ run (readChoice choice) (rest (now (octets .entry)) at) ⌝ }
-    ensures { λ r. ⌜ IntegerBounded (at + 40) r ⌝ }
+    ensures { λ r. ⌜ integerPlace r ≤ at + 40 ⌝ }
 {
     match choice {
         0 => near_year(octets, at, 4, 16, 2005),
@@ -67,7 +67,7 @@ fn chosen_year(octets: &[u8], at: u32, choice: u32) -> IntegerStep
 fn year(octets: &[u8], at: u32, row: YearRow) -> IntegerStep
     requires { ⌜ at ≤ 150 ⌝ }
     ensures { λ r. ⌜ seenInteger (now (octets .entry)) r ≡ run (readYear row) (rest (now (octets .entry)) at) ⌝ }
-    ensures { λ r. ⌜ IntegerBounded (at + 42) r ⌝ }
+    ensures { λ r. ⌜ integerPlace r ≤ at + 42 ⌝ }
 {
     match row {
         YearRow::Year => {
@@ -84,7 +84,7 @@ fn year(octets: &[u8], at: u32, row: YearRow) -> IntegerStep
 fn month_and_day(octets: &[u8], at: u32, year: Year) -> DateStep
     requires { ⌜ at ≤ 150 ⌝ }
     ensures { λ r. ⌜ seenDate (now (octets .entry)) r ≡ run (readDay year Form.YMD) (rest (now (octets .entry)) at) ⌝ }
-    ensures { λ r. ⌜ DateBounded (at + 9) r ⌝ }
+    ensures { λ r. ⌜ datePlace r ≤ at + 9 ⌝ }
 {
     let Step::Got(month, next) = ranged(octets, at, 4, 12) else {
         return DateStep::Nothing;
@@ -99,7 +99,7 @@ fn month_and_day(octets: &[u8], at: u32, year: Year) -> DateStep
 fn week_and_weekday(octets: &[u8], at: u32, year: Year) -> DateStep
     requires { ⌜ at ≤ 150 ⌝ }
     ensures { λ r. ⌜ seenDate (now (octets .entry)) r ≡ run (readDay year Form.YWD) (rest (now (octets .entry)) at) ⌝ }
-    ensures { λ r. ⌜ DateBounded (at + 9) r ⌝ }
+    ensures { λ r. ⌜ datePlace r ≤ at + 9 ⌝ }
 {
     let Step::Got(week, next) = ranged(octets, at, 6, 53) else {
         return DateStep::Nothing;
@@ -114,7 +114,7 @@ fn week_and_weekday(octets: &[u8], at: u32, year: Year) -> DateStep
 fn day(octets: &[u8], at: u32, year: Year, form: DateForm) -> DateStep
     requires { ⌜ at ≤ 150 ⌝ }
     ensures { λ r. ⌜ seenDate (now (octets .entry)) r ≡ run (readDay year form) (rest (now (octets .entry)) at) ⌝ }
-    ensures { λ r. ⌜ DateBounded (at + 9) r ⌝ }
+    ensures { λ r. ⌜ datePlace r ≤ at + 9 ⌝ }
 {
     match form {
         DateForm::Y => DateStep::Got(Date::Y(year), at),
@@ -145,7 +145,7 @@ fn day(octets: &[u8], at: u32, year: Year, form: DateForm) -> DateStep
 pub(crate) fn date(octets: &[u8], at: u32, row: YearRow, form: DateForm) -> DateStep
     requires { ⌜ at ≤ 50 ⌝ }
     ensures { λ r. ⌜ seenDate (now (octets .entry)) r ≡ run (readDate row form) (rest (now (octets .entry)) at) ⌝ }
-    ensures { λ r. ⌜ DateBounded (at + 51) r ⌝ }
+    ensures { λ r. ⌜ datePlace r ≤ at + 51 ⌝ }
 {
     let IntegerStep::Got(years, next) = year(octets, at, row) else {
         return DateStep::Nothing;

@@ -1,11 +1,11 @@
 // Reading the fields of octets, from a place on. A place is a count of bits.
 ghost use mathlib.Core.Path.{_≡_};
-ghost use Prim.Native.Nat.{_+_, _*_, _^_, _≤_, _<_};
+ghost use Prim.Native.Nat.{_+_, _^_, _≤_, _<_};
 ghost use lib.ListN.{length};
 ghost use Rattle.fields.specs.Fields.{width as widthOf};
 ghost use Rattle.fields.specs.Readings.{run, readBits, aRanged, aFree};
 ghost use Rattle.fields.specs.Integers.{fromTwos};
-ghost use Rattle.unpacking.specs.Steps.{numberAt, rest, seen, seenInteger, integerOf, Bounded, IntegerBounded};
+ghost use Rattle.unpacking.specs.Steps.{bitsIn, numberAt, rest, seen, seenInteger, integerOf, below, numberOf, place, stepBelow, integerPlace};
 use answers::Bits;
 
 // A number with the place after it, or nothing.
@@ -14,7 +14,7 @@ pub enum Step {
     Nothing,
 }
 
-// An integer by its sign: a number, or so much below 0.
+// An integer by its sign: so much, or so much below 0 (then never 0).
 pub enum Integer {
     Natural(u32),
     Negative(u32),
@@ -69,7 +69,7 @@ fn field(octets: &[u8], at: u32, width: u32) -> Step
     requires { ⌜ at ≤ 200 ⌝ }
     requires { ⌜ (1 ≤ width) × (width ≤ 32) ⌝ }
     ensures { λ r. ⌜ seen (now (octets .entry)) r ≡ readBits width (rest (now (octets .entry)) at) ⌝ }
-    ensures { λ r. ⌜ Bounded (2 ^ width) (at + width) r ⌝ }
+    ensures { λ r. ⌜ (numberOf r < 2 ^ width) × (place r ≤ at + width) ⌝ }
 {
     let end = at + width;
     let upto = Bits { count: at + 1 }.octets();
@@ -90,7 +90,7 @@ pub(crate) fn ranged(octets: &[u8], at: u32, width: u32, range: u32) -> Step
     requires { ⌜ (1 ≤ width) × (width ≤ 32) ⌝ }
     requires { ⌜ width ≡ widthOf range ⌝ }
     ensures { λ r. ⌜ seen (now (octets .entry)) r ≡ run (aRanged range) (rest (now (octets .entry)) at) ⌝ }
-    ensures { λ r. ⌜ Bounded range (at + width) r ⌝ }
+    ensures { λ r. ⌜ (numberOf r ≤ range) × (place r ≤ at + width) ⌝ }
 {
     let Step::Got(number, next) = field(octets, at, width) else {
         return Step::Nothing;
@@ -104,7 +104,7 @@ pub(crate) fn ranged(octets: &[u8], at: u32, width: u32, range: u32) -> Step
 // The bits of so many octets.
 fn width_of(count: u32) -> u32
     requires { ⌜ (1 ≤ count) × (count ≤ 4) ⌝ }
-    ensures { λ r. ⌜ r ≡ 8 * count ⌝ }
+    ensures { λ r. ⌜ r ≡ bitsIn count ⌝ }
 {
     match count {
         1 => 8,
@@ -117,8 +117,9 @@ fn width_of(count: u32) -> u32
 // The integer that a number is in two's complement, of so many octets.
 fn signed(number: u32, count: u32) -> Integer
     requires { ⌜ (1 ≤ count) × (count ≤ 4) ⌝ }
-    requires { ⌜ number < 2 ^ (8 * count) ⌝ }
+    requires { ⌜ number < 2 ^ bitsIn count ⌝ }
     ensures { λ r. ⌜ integerOf r ≡ fromTwos count number ⌝ }
+    ensures { λ r. ⌜ 1 ≤ below r ⌝ }
 {
     let width = width_of(count);
     let number = number as u64;
@@ -132,7 +133,7 @@ fn signed(number: u32, count: u32) -> Integer
 pub(crate) fn free(octets: &[u8], at: u32) -> IntegerStep
     requires { ⌜ at ≤ 160 ⌝ }
     ensures { λ r. ⌜ seenInteger (now (octets .entry)) r ≡ run aFree (rest (now (octets .entry)) at) ⌝ }
-    ensures { λ r. ⌜ IntegerBounded (at + 40) r ⌝ }
+    ensures { λ r. ⌜ (1 ≤ stepBelow r) × (integerPlace r ≤ at + 40) ⌝ }
 {
     let Step::Got(count, next) = field(octets, at, 8) else {
         return IntegerStep::Nothing;

@@ -5,7 +5,7 @@ ghost use lib.Dec.{ltb};
 ghost use Rattle.texts.specs.declared.forms.ZoneForm.{ZoneForm as FormOfZone};
 ghost use Rattle.fields.specs.Readings.{run};
 ghost use Rattle.rows.specs.Readings.{readClock, readExtended, readFraction, readMinutes, differenceAt, readZone, readTime};
-ghost use Rattle.unpacking.specs.Steps.{rest, afterHours, seen, seenClock, seenZone, seenTime, Bounded, ClockBounded, ZoneBounded, TimeBounded};
+ghost use Rattle.unpacking.specs.Steps.{rest, afterHours, seen, seenClock, seenZone, seenTime, place, clockPlace};
 use crate::numbers::Integer;
 use crate::numbers::IntegerStep;
 use crate::numbers::Step;
@@ -39,7 +39,7 @@ pub enum TimeStep {
 fn after_hours(octets: &[u8], at: u32, hours: u32, form: ClockForm) -> ClockStep
     requires { ⌜ at ≤ 150 ⌝ }
     ensures { λ r. ⌜ seenClock (now (octets .entry)) r ≡ run (afterHours hours form) (rest (now (octets .entry)) at) ⌝ }
-    ensures { λ r. ⌜ ClockBounded (at + 12) r ⌝ }
+    ensures { λ r. ⌜ clockPlace r ≤ at + 12 ⌝ }
 {
     match form {
         ClockForm::H => ClockStep::Got(Clock::H(hours), at),
@@ -65,7 +65,7 @@ fn after_hours(octets: &[u8], at: u32, hours: u32, form: ClockForm) -> ClockStep
 fn clock(octets: &[u8], at: u32, form: ClockForm) -> ClockStep
     requires { ⌜ at ≤ 120 ⌝ }
     ensures { λ r. ⌜ seenClock (now (octets .entry)) r ≡ run (readClock form) (rest (now (octets .entry)) at) ⌝ }
-    ensures { λ r. ⌜ ClockBounded (at + 17) r ⌝ }
+    ensures { λ r. ⌜ clockPlace r ≤ at + 17 ⌝ }
 {
     let Step::Got(hours, next) = ranged(octets, at, 5, 25) else {
         return ClockStep::Nothing;
@@ -75,7 +75,16 @@ fn clock(octets: &[u8], at: u32, form: ClockForm) -> ClockStep
 
 // The powers of ten that 32 bits hold.
 const TENS: [u32; 10] = [
-    1, 10, 100, 1000, 10000, 100000, 1000000, 10000000, 100000000, 1000000000,
+    1,
+    10,
+    100,
+    1000,
+    10000,
+    100000,
+    1000000,
+    10000000,
+    100000000,
+    1000000000,
 ];
 
 // Whether a number has no more than so many digits. Ten are enough for every number of 32 bits.
@@ -92,7 +101,7 @@ fn has_digits(number: u32, digits: u32) -> bool
 fn extended(octets: &[u8], at: u32, bit: u32) -> Step
     requires { ⌜ at ≤ 150 ⌝ }
     ensures { λ r. ⌜ seen (now (octets .entry)) r ≡ run (readExtended bit) (rest (now (octets .entry)) at) ⌝ }
-    ensures { λ r. ⌜ Bounded (2 ^ 32) (at + 40) r ⌝ }
+    ensures { λ r. ⌜ place r ≤ at + 40 ⌝ }
 {
     if bit == 0 {
         return ranged(octets, at, 10, 1000);
@@ -110,7 +119,7 @@ fn extended(octets: &[u8], at: u32, bit: u32) -> Step
 fn fraction(octets: &[u8], at: u32, digits: u32) -> Step
     requires { ⌜ at ≤ 140 ⌝ }
     ensures { λ r. ⌜ seen (now (octets .entry)) r ≡ run (readFraction digits) (rest (now (octets .entry)) at) ⌝ }
-    ensures { λ r. ⌜ Bounded (2 ^ 32) (at + 41) r ⌝ }
+    ensures { λ r. ⌜ place r ≤ at + 41 ⌝ }
 {
     if digits == 0 {
         return Step::Got(0, at);
@@ -131,7 +140,6 @@ fn fraction(octets: &[u8], at: u32, digits: u32) -> Step
 fn minutes(octets: &[u8], at: u32, present: u32) -> Step
     requires { ⌜ at ≤ 200 ⌝ }
     ensures { λ r. ⌜ seen (now (octets .entry)) r ≡ run (readMinutes present) (rest (now (octets .entry)) at) ⌝ }
-    ensures { λ r. ⌜ Bounded 60 (at + 6) r ⌝ }
 {
     if present == 0 {
         return Step::Got(0, at);
@@ -164,7 +172,6 @@ fn difference_at(hours: u32, minutes: u32) -> Difference
 fn difference(octets: &[u8], at: u32) -> ZoneStep
     requires { ⌜ at ≤ 190 ⌝ }
     ensures { λ r. ⌜ seenZone (now (octets .entry)) r ≡ run (readZone FormOfZone.LD) (rest (now (octets .entry)) at) ⌝ }
-    ensures { λ r. ⌜ ZoneBounded (at + 12) r ⌝ }
 {
     let Step::Got(present, after_present) = ranged(octets, at, 1, 2) else {
         return ZoneStep::Nothing;
@@ -182,7 +189,6 @@ fn difference(octets: &[u8], at: u32) -> ZoneStep
 fn zone(octets: &[u8], at: u32, form: ZoneForm) -> ZoneStep
     requires { ⌜ at ≤ 190 ⌝ }
     ensures { λ r. ⌜ seenZone (now (octets .entry)) r ≡ run (readZone form) (rest (now (octets .entry)) at) ⌝ }
-    ensures { λ r. ⌜ ZoneBounded (at + 12) r ⌝ }
 {
     match form {
         ZoneForm::L => ZoneStep::Got(Zone::L, at),
@@ -195,7 +201,6 @@ fn zone(octets: &[u8], at: u32, form: ZoneForm) -> ZoneStep
 pub(crate) fn time(octets: &[u8], at: u32, form: TimeForm) -> TimeStep
     requires { ⌜ at ≤ 100 ⌝ }
     ensures { λ r. ⌜ seenTime (now (octets .entry)) r ≡ run (readTime form) (rest (now (octets .entry)) at) ⌝ }
-    ensures { λ r. ⌜ TimeBounded (at + 70) r ⌝ }
 {
     let clock_form = form.clock;
     let digits = form.digits;

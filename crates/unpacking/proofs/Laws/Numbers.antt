@@ -7,6 +7,8 @@ use native.Mathlib.Omega.{arith}
 use lib.ListN.{getD, length, drop}
 use lib.Pow.{pow-mono}
 use lib.Seq.{drop-drop}
+use Rattle.answers.specs.Counts.{octetsFor}
+use Rattle.answers.specs.declared.counts.Octets.{Octets}
 use Rattle.fields.specs.Bits.{BitString, numberIn, unpacked}
 use Rattle.fields.proofs.Laws.Bits.{number-add, number-field, number-lt, number-octet}
 use Rattle.unpacking.specs.Steps.{numberAt, rest}
@@ -45,3 +47,8 @@ field-of s at w first count spare n f l c e =
     ap (λ (x : ℕ). x / 2 ^ spare % 2 ^ w) (e ∙ ap (λ (x : ℕ). numberIn x d) q)
     ∙ number-field (at % 8) w spare d
     ∙ ap (numberIn w) (drop-drop (at % 8) (8 * first) (unpacked s) ∙ ap (λ (x : ℕ). drop x (unpacked s)) m)
+
+-- The octets that carry so many bits.
+pub carried : (n : ℕ) {o : Octets} → o ≡ octetsFor (record { count = n }) → o .count ≡ (n + 7) / 8
+unfolding octetsFor
+carried n e = ap (λ (o : Octets). o .count) e

@@ -34,7 +34,7 @@ cast-t8 c = search needs
 
 returns : tie.Need-returns
 unfolding fromTwos half
-returns c = let h : c .before .before .before .args .number < 2 ^ (8 * c .before .before .before .args .count - 1) = rw (← c .before .before .width-of .ensures, ← c .before .power .ensures) (c .if1 .taken) in simp (lt-ltb _ _ h)
+returns c = let h : c .before .before .before .args .number < 2 ^ (8 * c .before .before .before .args .count - 1) = rw (← c .before .before .width-of .ensures, ← c .before .power .ensures) (c .if1 .taken) in (simp (lt-ltb _ _ h), omega arith)
 
 power-requires-2 : tie.Need-power-requires-2
 power-requires-2 c κs = search needs
@@ -47,7 +47,7 @@ cast-t6 c = omega (arith, whole c, high (c .before), pow-pos (8 * c .before .bef
 
 returns-2 : tie.Need-returns-2
 unfolding fromTwos half
-returns-2 c = let e : c .power2 .result - c .before .before .before .before .args .number ≡ suc (2 ^ (8 * c .before .before .before .before .args .count) - suc (c .before .before .before .before .args .number)) = omega (arith, whole c) in simp (le-ltb _ _ (high (c .before))) (negated _ _ e)
+returns-2 c = let e : c .power2 .result - c .before .before .before .before .args .number ≡ suc (2 ^ (8 * c .before .before .before .before .args .count) - suc (c .before .before .before .before .args .number)) = omega (arith, whole c) in (simp (le-ltb _ _ (high (c .before))) (negated _ _ e), omega arith)
 
 pub signed-spec : {M : Type 1} → statement M
 signed-spec =
