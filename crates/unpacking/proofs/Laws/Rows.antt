@@ -1,0 +1,65 @@
+-- The readings of rows in the words of the code's tests.
+use mathlib.Core.Path.{_≡_, refl, sym}
+use mathlib.Core.Bool.{Bool, true, false, false≢true}
+use Prim.Native.Nat.{ℕ, zero, suc, _^_, _≤_}
+use native.Mathlib.Omega.{arith}
+use lib.Dec.{ltb}
+use lib.IntN.{pos, negℤ}
+use Rattle.texts.specs.declared.forms.ClockForm.{ClockForm}
+use Rattle.fields.specs.Bits.{BitString}
+use Rattle.fields.specs.Readings.{found, nothing, Reading, give, _>>=_, aRanged, aFree, require, run}
+use Rattle.rows.specs.Readings.{readChoice, readClock, natural, readExtended, readFraction, readMinutes}
+use Rattle.unpacking.specs.Steps.{afterHours}
+
+-- The fourth choice of a year, and those that no two bits make.
+pub other-choice : (n : ℕ) → 3 ≤ n → readChoice n ≡ aFree
+unfolding readChoice
+other-choice zero h = absurd (omega arith)
+other-choice (suc zero) h = absurd (omega arith)
+other-choice (suc (suc zero)) h = absurd (omega arith)
+other-choice (suc (suc (suc n))) h = refl
+
+-- Every clock has its hours in front.
+pub clock-hours : (form : ClockForm) → readClock form ≡ (aRanged 25 >>= λ h. afterHours h form)
+unfolding readClock afterHours
+clock-hours ClockForm.H = refl
+clock-hours ClockForm.HM = refl
+clock-hours ClockForm.HMS = refl
+
+-- What a bit says, where it is not 0.
+pub extended-free : (n : ℕ) → 1 ≤ n → readExtended n ≡ (aFree >>= natural)
+unfolding readExtended
+extended-free zero h = absurd (omega arith)
+extended-free (suc n) h = refl
+
+pub minutes-some : (n : ℕ) → 1 ≤ n → readMinutes n ≡ (aRanged 59 >>= λ m. give (suc m))
+unfolding readMinutes
+minutes-some zero h = absurd (omega arith)
+minutes-some (suc n) h = refl
+
+-- A fraction that has digits.
+pub fraction-some : (n : ℕ) → 1 ≤ n → readFraction n ≡ (aRanged 2 >>= λ x. readExtended x >>= λ f. require (ltb f (10 ^ n)) (give f))
+unfolding readFraction
+fraction-some zero h = absurd (omega arith)
+fraction-some (suc n) h = refl
+
+-- A fraction's number, and a negative number, which is none.
+pub natural-some : (n : ℕ) (s : BitString) → run (natural (pos n)) s ≡ found n s
+unfolding natural run
+natural-some n s = refl
+
+pub negative-none : (n : ℕ) (s : BitString) → 1 ≤ n → run (natural (negℤ (pos n))) s ≡ nothing
+unfolding natural run
+negative-none zero s h = absurd (omega arith)
+negative-none (suc n) s h = refl
+
+-- A number that is tested.
+pub required : {A : Type 0} (t : Bool) (a : A) (s : BitString) → t ≡ true → run (require t (give a)) s ≡ found a s
+unfolding require run
+required true a s h = refl
+required false a s h = absurd (false≢true h)
+
+pub not-required : {A : Type 0} (t : Bool) (a : A) (s : BitString) → t ≡ false → run (require t (give a)) s ≡ nothing
+unfolding require run
+not-required true a s h = absurd (false≢true (sym h))
+not-required false a s h = refl

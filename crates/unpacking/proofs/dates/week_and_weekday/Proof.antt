@@ -1,0 +1,64 @@
+-- `dates::week_and_weekday` meets its contract, field by field.
+use mathlib.Core.Path.{_∙_, ap, refl, sym}
+use native.Mathlib.Omega.{arith}
+use borrow.Author.Needs.{needs}
+use Rattle.fields.specs.Fields.{binaryDigits, width}
+use Rattle.rows.specs.Readings.{readDay}
+use Rattle.unpacking.proofs.Laws.Steps.{run-give, step}
+use Rattle.unpacking.specs.Steps.{numberOf, place, seen}
+use Rattle.unpacking.proofs.dates.week_and_weekday.Statement.{statement}
+use Rattle.unpacking.proofs.dates.week_and_weekday.Tie as tie
+
+ranged-requires : tie.Need-ranged-requires
+unfolding width binaryDigits
+ranged-requires c κs = (omega arith, (omega arith, refl))
+
+enum-known-week : tie.Need-enum-known-week
+enum-known-week c = search needs
+
+enum-told : tie.Need-enum-told
+enum-told c = search needs
+
+returns : tie.Need-returns
+unfolding readDay
+returns c = (sym (step (seen _) _ _ _ (c .before .before .ranged .ensures .0) (c .enum-told .given .1)), omega arith)
+
+ranged-requires-2 : tie.Need-ranged-requires-2
+unfolding width binaryDigits
+ranged-requires-2 c κs = (omega (arith, ap place (c .before .week .given .1)), (omega arith, refl))
+
+enum-known-weekday : tie.Need-enum-known-weekday
+enum-known-weekday c = search needs
+
+enum-told-2 : tie.Need-enum-told-2
+enum-told-2 c = search needs
+
+returns-2 : tie.Need-returns-2
+unfolding readDay
+returns-2 c = (sym (step (seen _) _ _ _ (c .before .before .before .before .before .before .ranged .ensures .0) (c .before .before .before .before .week .given .1) ∙ step (seen _) _ _ _ (c .before .before .ranged2 .ensures .0) (c .enum-told2 .given .1)), omega arith)
+
+add-t10 : tie.Need-add-t10
+add-t10 c = omega (arith, ap numberOf (c .before .before .before .before .before .week .given .1))
+
+add-t11 : tie.Need-add-t11
+add-t11 c = omega (arith, ap numberOf (c .before .weekday .given .1))
+
+returns-3 : tie.Need-returns-3
+unfolding readDay
+returns-3 c = (sym (step (seen _) _ _ _ (c .before .before .before .before .before .before .before .ranged .ensures .0) (c .before .before .before .before .before .week .given .1) ∙ step (seen _) _ _ _ (c .before .before .before .ranged2 .ensures .0) (c .before .weekday .given .1) ∙ run-give _ _), omega (arith, ap place (c .before .before .before .before .before .week .given .1), ap place (c .before .weekday .given .1)))
+
+pub week-and-weekday-spec : {M : Type 1} → statement M
+week-and-weekday-spec =
+    tie.close
+    (tie.spec
+    ranged-requires
+    enum-known-week
+    enum-told
+    returns
+    ranged-requires-2
+    enum-known-weekday
+    enum-told-2
+    returns-2
+    add-t10
+    add-t11
+    returns-3)
