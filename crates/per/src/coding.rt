@@ -15,6 +15,8 @@ use texts::Value;
 use types::Parts;
 use types::Type;
 use types::Years;
+use unpacking::ValueRead;
+use unpacking::unpack;
 use values::Admission;
 use values::admit;
 use values::in_type;
@@ -102,4 +104,18 @@ fn judge(t: Type, octets: &[u8], value: Value, room: &mut [u8]) -> Outcome
         return Outcome::refused(Refusal::Membership);
     }
     compare(t, octets, value, room)
+}
+
+// Puts the canonical text of the octets' value under a type at the front of the room, or refuses.
+pub fn decode(t: Type, octets: &[u8], room: &mut [u8]) -> Outcome
+    ensures { λ r. ⌜ r ≡ outcomeOf (perDecoded t (now (octets .entry))) (now (room .entry)) ⌝ }
+    ensures { λ _. ⌜ now (room .exit) ≡ roomOf (perDecoded t (now (octets .entry))) (now (room .entry)) ⌝ }
+{
+    if !t.well_formed() {
+        return Outcome::refused(Refusal::Settings);
+    }
+    let ValueRead::Value(value) = unpack(row_of(t), t.form(), octets) else {
+        return Outcome::refused(Refusal::Form);
+    };
+    judge(t, octets, value, room)
 }

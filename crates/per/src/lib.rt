@@ -2,4 +2,5 @@
 // and octets become the canonical text of theirs.
 pub mod coding;
 
+pub use coding::decode;
 pub use coding::encode;

@@ -32,6 +32,8 @@ use Rattle.rows.specs.Readings.{readOctets}
 use Rattle.rows.specs.declared.YearRow.{YearRow}
 use Rattle.rows.proofs.Laws.Exact.{read-octets, reads-only, reads-all}
 use Rattle.rows.proofs.Laws.SameRows.{same-rows, same-form}
+use Rattle.unpacking.specs.Unpacked.{valueIn}
+use Rattle.unpacking.specs.declared.values.ValueRead.{ValueRead}
 use Rattle.kinds.specs.Kinds.{Option, some, none}
 use Rattle.kinds.specs.Coding.{judgedAs, judgedText, encoded}
 use Rattle.kinds.specs.Demands.{Holds, Lawful, Demand2, Accepted, Demand3, Judged}
@@ -104,6 +106,15 @@ per-reads-all row form octets v rest r = ap ofBits (reads-all row form v (unpack
 pub written-text : (bits : Bits) (v : Value) → existsValue v ≡ true → written bits v ≡ done (textOf v) bits
 unfolding written
 written-text bits v e = simp e
+
+-- What was read, as `unpacking` answers it.
+abbrev pub ofRead : ValueRead → Option Value
+ofRead (ValueRead.Value v) = some v
+ofRead ValueRead.Nothing = none
+
+pub bits-read : (g : Found Bool Value) → ofBits g ≡ ofRead (valueIn g)
+bits-read (found v rest) = refl
+bits-read nothing = refl
 
 -- What an admission answers: the encoding of the value, or the refusal.
 abbrev pub answerOf : YearRow → Admission → Answer

@@ -1,0 +1,71 @@
+-- `coding::decode` meets its contract: a type, octets that give a value, and what is judged of it.
+use mathlib.Core.Path.{_∙_, refl, sym}
+use denote.Ref.{now}
+use borrow.Author.Tests.{not-false, not-true}
+use Rattle.answers.specs.Outcomes.{outcomeOf, roomOf}
+use Rattle.kinds.specs.Coding.{decoded, judgedOctets}
+use Rattle.rows.specs.Readings.{readOctets}
+use Rattle.per.proofs.Laws.Per.{bits-read}
+use borrow.Author.Needs.{needs}
+use Rattle.per.proofs.coding.decode.Statement.{statement}
+use Rattle.per.proofs.coding.decode.Tie as tie
+
+well-formed-requires : tie.Need-well-formed-requires
+well-formed-requires c κs = search needs
+
+refused-requires : tie.Need-refused-requires
+refused-requires c κs = search needs
+
+returns : tie.Need-returns
+unfolding decoded outcomeOf roomOf
+returns c = rw (sym (c .before .before .well-formed .ensures) ∙ not-true _ (c .before .if1 .taken)) (c .refused .ensures, refl)
+
+row-of-requires : tie.Need-row-of-requires
+row-of-requires c κs = search needs
+
+form-requires : tie.Need-form-requires
+form-requires c κs = search needs
+
+unpack-requires : tie.Need-unpack-requires
+unpack-requires c κs = search needs
+
+enum-known-value : tie.Need-enum-known-value
+enum-known-value c = search needs
+
+enum-told : tie.Need-enum-told
+enum-told c = search needs
+
+refused-requires-2 : tie.Need-refused-requires-2
+refused-requires-2 c κs = search needs
+
+returns-2 : tie.Need-returns-2
+unfolding decoded judgedOctets outcomeOf roomOf
+returns-2 c = rw (sym (c .before .before .before .before .before .before .before .well-formed .ensures) ∙ not-false _ (c .before .before .before .before .before .before .if1 .left), ← c .before .before .before .before .before .row-of .ensures, ← c .before .before .before .before .form .ensures, bits-read (readOctets (c .before .before .before .before .before .row-of .result) (c .before .before .before .before .form .result) (now (c .before .before .before .before .before .before .before .before .before .before .args .octets))), sym (c .before .before .before .unpack .ensures) ∙ c .before .enum-told .given .1) (c .refused2 .ensures, refl)
+
+judge-requires : tie.Need-judge-requires
+judge-requires c κs = search needs
+
+same-length : tie.Need-same-length
+same-length c = search needs
+
+returns-3 : tie.Need-returns-3
+unfolding decoded judgedOctets
+returns-3 c = rw (sym (c .before .before .before .before .before .before .before .before .before .before .before .well-formed .ensures) ∙ not-false _ (c .before .before .before .before .before .before .before .before .before .before .if1 .left), ← c .before .before .before .before .before .before .before .before .before .row-of .ensures, ← c .before .before .before .before .before .before .before .before .form .ensures, bits-read (readOctets (c .before .before .before .before .before .before .before .before .before .row-of .result) (c .before .before .before .before .before .before .before .before .form .result) (now (c .before .before .before .before .before .before .before .before .before .before .before .before .before .before .args .octets))), sym (c .before .before .before .before .before .before .before .unpack .ensures) ∙ c .before .before .before .before .before .value .given .1) (c .before .before .judge .ensures)
+
+pub decode-spec : {M : Type 1} → statement M
+decode-spec =
+    tie.close
+    (tie.spec
+    well-formed-requires
+    refused-requires
+    returns
+    row-of-requires
+    form-requires
+    unpack-requires
+    enum-known-value
+    enum-told
+    refused-requires-2
+    returns-2
+    judge-requires
+    same-length
+    returns-3)
