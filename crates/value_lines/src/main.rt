@@ -216,7 +216,10 @@ fn hex_digit(number: u8) -> u8 {
     if number < 10 {
         return b'0' + number;
     }
-    b'A' + (number % 16 - 10)
+    if number < 16 {
+        return b'A' + (number - 10);
+    }
+    b'?'
 }
 
 // The number of a hex digit, or 16 for any other octet.
@@ -252,7 +255,10 @@ fn unhex(text: &[u8], octets: &mut [u8]) -> Hex {
     while i < n {
         let high = hex_number(text[2 * i]);
         let low = hex_number(text[2 * i + 1]);
-        if 15 < high || 15 < low {
+        if 15 < high {
+            return Hex::Bad;
+        }
+        if 15 < low {
             return Hex::Bad;
         }
         octets[i] = high * 16 + low;
@@ -276,50 +282,37 @@ fn bits_reply(bits: Bits) {
 
 // The end of the reply: octets in hex.
 fn hex_reply(octets: &[u8]) {
-    let mut text = [b'\n'; 129];
-    let n = octets.len();
-    if ROOM < n {
-        return no_question();
-    }
     let mut i = 0;
-    while i < n {
-        text[2 * i] = hex_digit(octets[i] / 16);
-        text[2 * i + 1] = hex_digit(octets[i] % 16);
+    while i < octets.len() {
+        let octet = octets[i];
+        write(&[hex_digit(octet / 16), hex_digit(octet % 16)]);
         i += 1;
     }
-    write(&text[..2 * n + 1])
+    write(b"\n")
 }
 
-// The reply to a text that is to be encoded, in a room of so many octets.
-fn encode_reply(t: Type, text: &[u8], length: usize) {
-    let mut room = [0u8; ROOM];
-    if ROOM < length {
-        return no_question();
-    }
-    let outcome = per::encode(t, text, &mut room[..length]);
+// The reply to a text that is to be encoded.
+fn encode_reply(t: Type, text: &[u8], room: &mut [u8]) {
+    let outcome = per::encode(t, text, room);
     if outcome.number != 0 {
         return number_reply(outcome.number);
     }
     let end = outcome.length.count;
-    if ROOM < end {
+    if room.len() < end {
         return no_question();
     }
     bits_reply(outcome.bits);
     hex_reply(&room[..end])
 }
 
-// The reply to octets that are to be decoded, in a room of so many octets.
-fn decode_reply(t: Type, octets: &[u8], length: usize) {
-    let mut room = [0u8; ROOM];
-    if ROOM < length {
-        return no_question();
-    }
-    let outcome = per::decode(t, octets, &mut room[..length]);
+// The reply to octets that are to be decoded.
+fn decode_reply(t: Type, octets: &[u8], room: &mut [u8]) {
+    let outcome = per::decode(t, octets, room);
     if outcome.number != 0 {
         return number_reply(outcome.number);
     }
     let end = outcome.length.count;
-    if ROOM < end {
+    if room.len() < end {
         return no_question();
     }
     bits_reply(outcome.bits);
@@ -328,17 +321,17 @@ fn decode_reply(t: Type, octets: &[u8], length: usize) {
 }
 
 // The reply to a text under a type's text.
-fn encode_line(limits: Limits, settings: &[u8], text: &[u8], length: usize) {
+fn encode_line(limits: Limits, settings: &[u8], text: &[u8], room: &mut [u8]) {
     let read = values::read_type(settings, limits);
     match read {
-        TypeRead::Type(t) => encode_reply(t, text, length),
+        TypeRead::Type(t) => encode_reply(t, text, room),
         TypeRead::Unreadable => number_reply(1),
         TypeRead::NoRow => number_reply(2),
     }
 }
 
 // The reply to octets in hex under a type's text.
-fn decode_line(limits: Limits, settings: &[u8], hex: &[u8], length: usize) {
+fn decode_line(limits: Limits, settings: &[u8], hex: &[u8], room: &mut [u8]) {
     let mut octets = [0u8; OCTETS];
     let Hex::Length(n) = unhex(hex, &mut octets) else {
         return no_question();
@@ -348,7 +341,7 @@ fn decode_line(limits: Limits, settings: &[u8], hex: &[u8], length: usize) {
     }
     let read = values::read_type(settings, limits);
     match read {
-        TypeRead::Type(t) => decode_reply(t, &octets[..n], length),
+        TypeRead::Type(t) => decode_reply(t, &octets[..n], room),
         TypeRead::Unreadable => number_reply(1),
         TypeRead::NoRow => number_reply(2),
     }
@@ -369,12 +362,16 @@ fn coding_reply(line: &[u8]) {
     let Room::Length(length) = room_of(line[2]) else {
         return no_question();
     };
+    let mut room = [0u8; ROOM];
+    if ROOM < length {
+        return no_question();
+    }
     let work = line[0];
     if work == b'e' {
-        return encode_line(limits, &line[4..second], &line[second + 1..], length);
+        return encode_line(limits, &line[4..second], &line[second + 1..], &mut room[..length]);
     }
     if work == b'd' {
-        return decode_line(limits, &line[4..second], &line[second + 1..], length);
+        return decode_line(limits, &line[4..second], &line[second + 1..], &mut room[..length]);
     }
     no_question()
 }

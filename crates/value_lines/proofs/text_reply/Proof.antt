@@ -42,10 +42,10 @@ add-octets : tie.Need-add-octets
 add-octets c = search needs
 
 array-share-prefix-octets : tie.Need-array-share-prefix-octets
-array-share-prefix-octets c = let w : length (c .before .before .before .before .write-text .last .1 .0) ≡ 62 = search needs in let x : length (c .before .before .before .before .write-text .last .1 .0 ++ []) ≡ 62 = rw append-nil w in omega arith
+array-share-prefix-octets c = let w : length (c .before .before .before .before .write-text .last .1 .1 .0) ≡ 62 = search needs in let x : length (c .before .before .before .before .write-text .last .1 .1 .0 ++ []) ≡ 62 = rw append-nil w in omega arith
 
 slice-aggregate-write : tie.Need-slice-aggregate-write
-slice-aggregate-write c = let w : length (c .before .before .before .before .before .write-text .last .1 .0) ≡ 62 = search needs in let x : length (c .before .before .before .before .before .write-text .last .1 .0 ++ []) ≡ 62 = rw append-nil w in sym (length-take-le _ _ (omega arith))
+slice-aggregate-write c = let w : length (c .before .before .before .before .before .write-text .last .1 .1 .0) ≡ 62 = search needs in let x : length (c .before .before .before .before .before .write-text .last .1 .1 .0 ++ []) ≡ 62 = rw append-nil w in sym (length-take-le _ _ (omega arith))
 
 write-requires : tie.Need-write-requires
 write-requires c κs = search needs
