@@ -119,23 +119,23 @@ fn day(octets: &[u8], at: u32, year: Year, form: DateForm) -> DateStep
     match form {
         DateForm::Y => DateStep::Got(Date::Y(year), at),
         DateForm::YM => {
-            let Step::Got(month, next) = ranged(octets, at, 4, 12) else {
+            let Step::Got(month, end) = ranged(octets, at, 4, 12) else {
                 return DateStep::Nothing;
             };
-            DateStep::Got(Date::YM(year, month + 1), next)
+            DateStep::Got(Date::YM(year, month + 1), end)
         }
         DateForm::YMD => month_and_day(octets, at, year),
         DateForm::YD => {
-            let Step::Got(day, next) = ranged(octets, at, 9, 366) else {
+            let Step::Got(day, end) = ranged(octets, at, 9, 366) else {
                 return DateStep::Nothing;
             };
-            DateStep::Got(Date::YD(year, day + 1), next)
+            DateStep::Got(Date::YD(year, day + 1), end)
         }
         DateForm::YW => {
-            let Step::Got(week, next) = ranged(octets, at, 6, 53) else {
+            let Step::Got(week, end) = ranged(octets, at, 6, 53) else {
                 return DateStep::Nothing;
             };
-            DateStep::Got(Date::YW(year, week + 1), next)
+            DateStep::Got(Date::YW(year, week + 1), end)
         }
         DateForm::YWD => week_and_weekday(octets, at, year),
     }

@@ -44,10 +44,10 @@ fn after_hours(octets: &[u8], at: u32, hours: u32, form: ClockForm) -> ClockStep
     match form {
         ClockForm::H => ClockStep::Got(Clock::H(hours), at),
         ClockForm::HM => {
-            let Step::Got(minutes, next) = ranged(octets, at, 6, 60) else {
+            let Step::Got(minutes, end) = ranged(octets, at, 6, 60) else {
                 return ClockStep::Nothing;
             };
-            ClockStep::Got(Clock::HM(hours, minutes), next)
+            ClockStep::Got(Clock::HM(hours, minutes), end)
         }
         ClockForm::HMS => {
             let Step::Got(minutes, next) = ranged(octets, at, 6, 60) else {

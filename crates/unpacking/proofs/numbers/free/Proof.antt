@@ -1,5 +1,6 @@
 -- `numbers::free` meets its contract, test by test.
 use mathlib.Core.Path.{ap}
+use Prim.Native.Nat.{_<_, _≤_}
 use native.Mathlib.Omega.{arith}
 use borrow.Author.Needs.{needs}
 use borrow.Author.Tests.{le-leb, lt-leb}
@@ -21,10 +22,10 @@ returns : tie.Need-returns
 returns c = (rw (free-by _ (told (seen _) (c .before .before .field .ensures .0) (c .enum-told .given .1))), omega arith)
 
 returns-2 : tie.Need-returns-2
-returns-2 c = (rw (free-by _ (told (seen _) (c .before .before .before .before .field .ensures .0) (c .before .before .count .given .1)), lt-leb 1 _ (c .if1 .taken)), omega arith)
+returns-2 c = let h : c .before .before .count .given .0 .0 < 1 = omega arith in (rw (free-by _ (told (seen _) (c .before .before .before .before .field .ensures .0) (c .before .before .count .given .1)), lt-leb 1 _ h), omega arith)
 
 returns-3 : tie.Need-returns-3
-returns-3 c = (rw (free-by _ (told (seen _) (c .before .before .before .before .before .field .ensures .0) (c .before .before .before .count .given .1)), le-leb 1 _ (c .before .if1 .left), lt-leb _ 4 (c .if2 .taken)), omega arith)
+returns-3 c = let l : 1 ≤ c .before .before .before .count .given .0 .0 = omega arith in let h : 4 < c .before .before .before .count .given .0 .0 = omega arith in (rw (free-by _ (told (seen _) (c .before .before .before .before .before .field .ensures .0) (c .before .before .before .count .given .1)), le-leb 1 _ l, lt-leb _ 4 h), omega arith)
 
 width-of-requires : tie.Need-width-of-requires
 width-of-requires c κs = search needs
