@@ -2,3 +2,4 @@
 pub mod Groups
 pub mod Writing
 pub mod Packed
+pub mod Parts

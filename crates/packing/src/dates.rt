@@ -8,6 +8,7 @@ ghost use Rattle.fields.specs.Bits.{bitsOf};
 ghost use Rattle.fields.specs.Fields.{layout};
 ghost use Rattle.rows.specs.Fields.{choiceOfYear, yearFields, dayFields, dateFields};
 ghost use Rattle.packing.specs.Groups.{groupBits, Fits};
+ghost use Rattle.packing.specs.Parts.{dateOf};
 use crate::groups::Group;
 use crate::groups::field;
 use crate::groups::integer;
@@ -19,6 +20,7 @@ use calendar::Date;
 use calendar::Distance;
 use calendar::Year;
 use rows::YearRow;
+use texts::Value;
 
 // Two choice bits and a year since the year 0000: 2005 to 2020, 2021 to 2276, 1749 to 2004, or another.
 fn near_year(n: u64) -> Group
@@ -114,9 +116,22 @@ fn day_group(date: Date) -> Group
 }
 
 // A date.
-pub(crate) fn date_group(row: YearRow, date: Date) -> Group
+fn date_group(row: YearRow, date: Date) -> Group
     ensures { λ r. ⌜ groupBits r ≡ layout (dateFields row date) ⌝ }
     ensures { λ r. ⌜ Fits 51 r ⌝ }
 {
     join(year_group(row, year_of(date)), day_group(date))
+}
+
+// The date of a value, nothing where it has none.
+pub(crate) fn date_part(row: YearRow, value: Value) -> Group
+    ensures { λ r. ⌜ groupBits r ≡ layout (dateOf row value) ⌝ }
+    ensures { λ r. ⌜ Fits 51 r ⌝ }
+{
+    let date = match value {
+        Value::Date(date) => date,
+        Value::Time(_) => return nothing(),
+        Value::DateTime(date, _) => date,
+    };
+    date_group(row, date)
 }

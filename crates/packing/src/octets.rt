@@ -6,12 +6,11 @@ ghost use lib.ListN.{length};
 ghost use Rattle.packing.specs.Groups.{groupBits, Fits};
 ghost use Rattle.packing.specs.Writing.{Room, Ready, Put, Flushed, finished};
 ghost use Rattle.packing.specs.Packed.{packedBits, packedOf};
-use crate::dates::date_group;
+use crate::dates::date_part;
 use crate::groups::Group;
-use crate::groups::nothing;
 use crate::groups::power;
-use crate::times::after_group;
-use crate::times::clock_group;
+use crate::times::after_part;
+use crate::times::clock_part;
 use answers::Bits;
 use rows::YearRow;
 use texts::Value;
@@ -107,15 +106,5 @@ fn write(date: Group, clock: Group, after: Group) -> Packed
 pub fn pack(row: YearRow, value: Value) -> Packed
     ensures { λ r. ⌜ r ≡ packedOf row value ⌝ }
 {
-    match value {
-        Value::Date(date) => write(date_group(row, date), nothing(), nothing()),
-        Value::Time(time) => {
-            let clock = time.clock;
-            write(nothing(), clock_group(clock), after_group(time))
-        }
-        Value::DateTime(date, time) => {
-            let clock = time.clock;
-            write(date_group(row, date), clock_group(clock), after_group(time))
-        }
-    }
+    write(date_part(row, value), clock_part(value), after_part(value))
 }

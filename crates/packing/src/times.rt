@@ -4,6 +4,7 @@ ghost use mathlib.Core.List.{_++_};
 ghost use Rattle.fields.specs.Fields.{layout};
 ghost use Rattle.rows.specs.Fields.{clockFields, fractionFields, hoursField, differenceFields, zoneFields};
 ghost use Rattle.packing.specs.Groups.{groupBits, Fits};
+ghost use Rattle.packing.specs.Parts.{clockOf, afterOf};
 use crate::groups::Group;
 use crate::groups::field;
 use crate::groups::integer;
@@ -12,10 +13,11 @@ use crate::groups::minus;
 use crate::groups::nothing;
 use texts::Clock;
 use texts::Time;
+use texts::Value;
 use texts::Zone;
 
 // Hours, minutes and seconds.
-pub(crate) fn clock_group(clock: Clock) -> Group
+fn clock_group(clock: Clock) -> Group
     ensures { λ r. ⌜ groupBits r ≡ layout (clockFields clock) ⌝ }
     ensures { λ r. ⌜ Fits 17 r ⌝ }
 {
@@ -81,10 +83,37 @@ fn zone_group(zone: Zone) -> Group
 }
 
 // What a time has after its clock: its fraction and its difference.
-pub(crate) fn after_group(time: Time) -> Group
+fn after_group(time: Time) -> Group
     ensures { λ r. ⌜ groupBits r ≡ layout (fractionFields (time .digits) (time .fraction) ++ zoneFields (time .zone)) ⌝ }
     ensures { λ r. ⌜ Fits 53 r ⌝ }
 {
     let zone = time.zone;
     join(fraction_group(time.digits, time.fraction), zone_group(zone))
+}
+
+// The clock of a value, nothing where it has none.
+pub(crate) fn clock_part(value: Value) -> Group
+    ensures { λ r. ⌜ groupBits r ≡ layout (clockOf value) ⌝ }
+    ensures { λ r. ⌜ Fits 17 r ⌝ }
+{
+    let time = match value {
+        Value::Date(_) => return nothing(),
+        Value::Time(time) => time,
+        Value::DateTime(_, time) => time,
+    };
+    let clock = time.clock;
+    clock_group(clock)
+}
+
+// What a value has after its clock, nothing where it has none.
+pub(crate) fn after_part(value: Value) -> Group
+    ensures { λ r. ⌜ groupBits r ≡ layout (afterOf value) ⌝ }
+    ensures { λ r. ⌜ Fits 53 r ⌝ }
+{
+    let time = match value {
+        Value::Date(_) => return nothing(),
+        Value::Time(time) => time,
+        Value::DateTime(_, time) => time,
+    };
+    after_group(time)
 }

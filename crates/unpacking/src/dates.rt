@@ -1,9 +1,8 @@
 // Reading a date.
 ghost use mathlib.Core.Path.{_≡_};
 ghost use Prim.Native.Nat.{_+_, _≤_};
-ghost use lib.IntN.{pos};
 ghost use Rattle.calendar.specs.Years.{yearAt};
-ghost use Rattle.texts.specs.declared.forms.DateForm.{DateForm as Form};
+ghost use Rattle.texts.specs.declared.forms.DateForm.{DateForm};
 ghost use Rattle.fields.specs.Fields.{width as widthOf};
 ghost use Rattle.fields.specs.Readings.{run};
 ghost use Rattle.rows.specs.Readings.{readChoice, readYear, readDay, readDate};
@@ -83,7 +82,7 @@ fn year(octets: &[u8], at: u32, row: YearRow) -> IntegerStep
 // Month and day after a year.
 fn month_and_day(octets: &[u8], at: u32, year: Year) -> DateStep
     requires { ⌜ at ≤ 150 ⌝ }
-    ensures { λ r. ⌜ seenDate (now (octets .entry)) r ≡ run (readDay year Form.YMD) (rest (now (octets .entry)) at) ⌝ }
+    ensures { λ r. ⌜ seenDate (now (octets .entry)) r ≡ run (readDay year DateForm.YMD) (rest (now (octets .entry)) at) ⌝ }
     ensures { λ r. ⌜ datePlace r ≤ at + 9 ⌝ }
 {
     let Step::Got(month, next) = ranged(octets, at, 4, 12) else {
@@ -98,7 +97,7 @@ fn month_and_day(octets: &[u8], at: u32, year: Year) -> DateStep
 // Week and weekday after a year.
 fn week_and_weekday(octets: &[u8], at: u32, year: Year) -> DateStep
     requires { ⌜ at ≤ 150 ⌝ }
-    ensures { λ r. ⌜ seenDate (now (octets .entry)) r ≡ run (readDay year Form.YWD) (rest (now (octets .entry)) at) ⌝ }
+    ensures { λ r. ⌜ seenDate (now (octets .entry)) r ≡ run (readDay year DateForm.YWD) (rest (now (octets .entry)) at) ⌝ }
     ensures { λ r. ⌜ datePlace r ≤ at + 9 ⌝ }
 {
     let Step::Got(week, next) = ranged(octets, at, 6, 53) else {
@@ -119,23 +118,23 @@ fn day(octets: &[u8], at: u32, year: Year, form: DateForm) -> DateStep
     match form {
         DateForm::Y => DateStep::Got(Date::Y(year), at),
         DateForm::YM => {
-            let Step::Got(month, next) = ranged(octets, at, 4, 12) else {
+            let Step::Got(month, end) = ranged(octets, at, 4, 12) else {
                 return DateStep::Nothing;
             };
-            DateStep::Got(Date::YM(year, month + 1), next)
+            DateStep::Got(Date::YM(year, month + 1), end)
         }
         DateForm::YMD => month_and_day(octets, at, year),
         DateForm::YD => {
-            let Step::Got(day, next) = ranged(octets, at, 9, 366) else {
+            let Step::Got(day, end) = ranged(octets, at, 9, 366) else {
                 return DateStep::Nothing;
             };
-            DateStep::Got(Date::YD(year, day + 1), next)
+            DateStep::Got(Date::YD(year, day + 1), end)
         }
         DateForm::YW => {
-            let Step::Got(week, next) = ranged(octets, at, 6, 53) else {
+            let Step::Got(week, end) = ranged(octets, at, 6, 53) else {
                 return DateStep::Nothing;
             };
-            DateStep::Got(Date::YW(year, week + 1), next)
+            DateStep::Got(Date::YW(year, week + 1), end)
         }
         DateForm::YWD => week_and_weekday(octets, at, year),
     }

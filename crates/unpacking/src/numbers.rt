@@ -64,7 +64,8 @@ fn gathered(octets: &[u8], first: usize, count: usize) -> u64
     number
 }
 
-// The number of so many bits: the octets that they lie in are gathered, and the bits around them go.
+// The number of so many bits: the octets that they lie in are gathered, and the bits around them go. The
+// octet of the first bit is the last of those that carry the bits up to it.
 fn field(octets: &[u8], at: u32, width: u32) -> Step
     requires { ⌜ at ≤ 200 ⌝ }
     requires { ⌜ (1 ≤ width) × (width ≤ 32) ⌝ }
@@ -72,10 +73,10 @@ fn field(octets: &[u8], at: u32, width: u32) -> Step
     ensures { λ r. ⌜ (numberOf r < 2 ^ width) × (place r ≤ at + width) ⌝ }
 {
     let end = at + width;
-    let upto = Bits { count: at + 1 }.octets();
-    let all = Bits { count: end }.octets();
-    let first = upto.count - 1;
-    let last = all.count;
+    let with_first = Bits { count: at + 1 }.octets();
+    let with_all = Bits { count: end }.octets();
+    let first = with_first.count - 1;
+    let last = with_all.count;
     if octets.len() < last {
         return Step::Nothing;
     }

@@ -2,7 +2,7 @@
 ghost use mathlib.Core.Path.{_≡_};
 ghost use Prim.Native.Nat.{_+_, _^_, _≤_};
 ghost use lib.Dec.{ltb};
-ghost use Rattle.texts.specs.declared.forms.ZoneForm.{ZoneForm as FormOfZone};
+ghost use Rattle.texts.specs.declared.forms.ZoneForm.{ZoneForm};
 ghost use Rattle.fields.specs.Readings.{run};
 ghost use Rattle.rows.specs.Readings.{readClock, readExtended, readFraction, readMinutes, differenceAt, readZone, readTime};
 ghost use Rattle.unpacking.specs.Steps.{rest, afterHours, seen, seenClock, seenZone, seenTime, place, clockPlace};
@@ -44,10 +44,10 @@ fn after_hours(octets: &[u8], at: u32, hours: u32, form: ClockForm) -> ClockStep
     match form {
         ClockForm::H => ClockStep::Got(Clock::H(hours), at),
         ClockForm::HM => {
-            let Step::Got(minutes, next) = ranged(octets, at, 6, 60) else {
+            let Step::Got(minutes, end) = ranged(octets, at, 6, 60) else {
                 return ClockStep::Nothing;
             };
-            ClockStep::Got(Clock::HM(hours, minutes), next)
+            ClockStep::Got(Clock::HM(hours, minutes), end)
         }
         ClockForm::HMS => {
             let Step::Got(minutes, next) = ranged(octets, at, 6, 60) else {
@@ -171,7 +171,7 @@ fn difference_at(hours: u32, minutes: u32) -> Difference
 // A difference: whether it has minutes, its hours, and its minutes.
 fn difference(octets: &[u8], at: u32) -> ZoneStep
     requires { ⌜ at ≤ 190 ⌝ }
-    ensures { λ r. ⌜ seenZone (now (octets .entry)) r ≡ run (readZone FormOfZone.LD) (rest (now (octets .entry)) at) ⌝ }
+    ensures { λ r. ⌜ seenZone (now (octets .entry)) r ≡ run (readZone ZoneForm.LD) (rest (now (octets .entry)) at) ⌝ }
 {
     let Step::Got(present, after_present) = ranged(octets, at, 1, 2) else {
         return ZoneStep::Nothing;

@@ -1,6 +1,6 @@
 // Reading a value at a form.
 ghost use mathlib.Core.Path.{_≡_};
-ghost use Rattle.texts.specs.declared.forms.Form.{Form as FormOf};
+ghost use Rattle.texts.specs.declared.forms.Form.{Form};
 ghost use Rattle.rows.specs.Readings.{readOctets};
 ghost use Rattle.unpacking.specs.Unpacked.{valueIn};
 use crate::dates::DateStep;
@@ -21,7 +21,7 @@ pub enum ValueRead {
 
 // A date alone.
 fn read_date(row: YearRow, form: DateForm, octets: &[u8]) -> ValueRead
-    ensures { λ r. ⌜ r ≡ valueIn (readOctets row (FormOf.Date form) (now (octets .entry))) ⌝ }
+    ensures { λ r. ⌜ r ≡ valueIn (readOctets row (Form.Date form) (now (octets .entry))) ⌝ }
 {
     let DateStep::Got(date, _) = date(octets, 0, row, form) else {
         return ValueRead::Nothing;
@@ -31,7 +31,7 @@ fn read_date(row: YearRow, form: DateForm, octets: &[u8]) -> ValueRead
 
 // A time alone.
 fn read_time(row: YearRow, form: TimeForm, octets: &[u8]) -> ValueRead
-    ensures { λ r. ⌜ r ≡ valueIn (readOctets row (FormOf.Time form) (now (octets .entry))) ⌝ }
+    ensures { λ r. ⌜ r ≡ valueIn (readOctets row (Form.Time form) (now (octets .entry))) ⌝ }
 {
     let TimeStep::Got(time, _) = time(octets, 0, form) else {
         return ValueRead::Nothing;
@@ -41,7 +41,7 @@ fn read_time(row: YearRow, form: TimeForm, octets: &[u8]) -> ValueRead
 
 // A date with a time.
 fn read_date_time(row: YearRow, before: DateForm, form: TimeForm, octets: &[u8]) -> ValueRead
-    ensures { λ r. ⌜ r ≡ valueIn (readOctets row (FormOf.DateTime before form) (now (octets .entry))) ⌝ }
+    ensures { λ r. ⌜ r ≡ valueIn (readOctets row (Form.DateTime before form) (now (octets .entry))) ⌝ }
 {
     let DateStep::Got(date, next) = date(octets, 0, row, before) else {
         return ValueRead::Nothing;

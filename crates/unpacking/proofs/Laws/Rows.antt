@@ -7,7 +7,7 @@ use lib.Dec.{ltb}
 use lib.IntN.{pos, negℤ}
 use Rattle.texts.specs.declared.forms.ClockForm.{ClockForm}
 use Rattle.fields.specs.Bits.{BitString}
-use Rattle.fields.specs.Readings.{found, nothing, Reading, give, _>>=_, aRanged, aFree, require, run}
+use Rattle.fields.specs.Readings.{found, nothing, give, _>>=_, aRanged, aFree, require, run}
 use Rattle.rows.specs.Readings.{readChoice, readClock, natural, readExtended, readFraction, readMinutes}
 use Rattle.unpacking.specs.Steps.{afterHours}
 

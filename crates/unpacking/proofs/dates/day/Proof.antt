@@ -3,6 +3,7 @@ use mathlib.Core.Path.{_∙_, ap, refl, sym}
 use native.Mathlib.Omega.{arith}
 use borrow.Author.Needs.{needs}
 use Rattle.fields.specs.Fields.{binaryDigits, width}
+use Rattle.fields.specs.Readings.{aRanged}
 use Rattle.rows.specs.Readings.{readDay}
 use Rattle.unpacking.proofs.Laws.Steps.{run-give, step}
 use Rattle.unpacking.specs.Steps.{numberOf, place, seen}
@@ -27,7 +28,7 @@ enum-told-3 c = search needs
 
 returns : tie.Need-returns
 unfolding readDay
-returns c = (rw (c .before .before .before .enum-told2 .given .1) (sym (step (seen _) _ _ _ (c .before .before .ranged .ensures .0) (c .enum-told3 .given .1))), omega arith)
+returns c = (rw (c .before .before .before .enum-told2 .given .1) (sym (step (seen _) (aRanged 12) _ _ (c .before .before .ranged .ensures .0) (c .enum-told3 .given .1))), omega arith)
 
 add-t14 : tie.Need-add-t14
 add-t14 c = omega (arith, ap numberOf (c .before .month .given .1))
@@ -53,7 +54,7 @@ enum-told-6 c = search needs
 
 returns-2 : tie.Need-returns-2
 unfolding readDay
-returns-2 c = (rw (c .before .before .before .enum-told5 .given .1) (sym (step (seen _) _ _ _ (c .before .before .ranged2 .ensures .0) (c .enum-told6 .given .1))), omega arith)
+returns-2 c = (rw (c .before .before .before .enum-told5 .given .1) (sym (step (seen _) (aRanged 366) _ _ (c .before .before .ranged2 .ensures .0) (c .enum-told6 .given .1))), omega arith)
 
 add-t17 : tie.Need-add-t17
 add-t17 c = omega (arith, ap numberOf (c .before .day .given .1))
@@ -73,7 +74,7 @@ enum-told-8 c = search needs
 
 returns-3 : tie.Need-returns-3
 unfolding readDay
-returns-3 c = (rw (c .before .before .before .enum-told7 .given .1) (sym (step (seen _) _ _ _ (c .before .before .ranged3 .ensures .0) (c .enum-told8 .given .1))), omega arith)
+returns-3 c = (rw (c .before .before .before .enum-told7 .given .1) (sym (step (seen _) (aRanged 53) _ _ (c .before .before .ranged3 .ensures .0) (c .enum-told8 .given .1))), omega arith)
 
 add-t20 : tie.Need-add-t20
 add-t20 c = omega (arith, ap numberOf (c .before .week .given .1))
@@ -90,18 +91,18 @@ returns-4 c = (rw (c .enum-told .given .1) (sym (run-give _ _)), omega arith)
 
 returns-5 : tie.Need-returns-5
 unfolding readDay
-returns-5 c = (rw (c .before .before .before .before .enum-told2 .given .1) (sym (step (seen _) _ _ _ (c .before .before .before .ranged .ensures .0) (c .before .month .given .1) ∙ run-give _ _)), omega (arith, ap place (c .before .month .given .1)))
+returns-5 c = (rw (c .before .before .before .before .enum-told2 .given .1) (sym (step (seen _) (aRanged 12) _ _ (c .before .before .before .ranged .ensures .0) (c .before .month .given .1) ∙ run-give _ _)), omega (arith, ap place (c .before .month .given .1)))
 
 returns-6 : tie.Need-returns-6
 returns-6 c = (rw (c .before .enum-told4 .given .1) (c .month-and-day .ensures .0), c .month-and-day .ensures .1)
 
 returns-7 : tie.Need-returns-7
 unfolding readDay
-returns-7 c = (rw (c .before .before .before .before .enum-told5 .given .1) (sym (step (seen _) _ _ _ (c .before .before .before .ranged2 .ensures .0) (c .before .day .given .1) ∙ run-give _ _)), omega (arith, ap place (c .before .day .given .1)))
+returns-7 c = (rw (c .before .before .before .before .enum-told5 .given .1) (sym (step (seen _) (aRanged 366) _ _ (c .before .before .before .ranged2 .ensures .0) (c .before .day .given .1) ∙ run-give _ _)), omega (arith, ap place (c .before .day .given .1)))
 
 returns-8 : tie.Need-returns-8
 unfolding readDay
-returns-8 c = (rw (c .before .before .before .before .enum-told7 .given .1) (sym (step (seen _) _ _ _ (c .before .before .before .ranged3 .ensures .0) (c .before .week .given .1) ∙ run-give _ _)), omega (arith, ap place (c .before .week .given .1)))
+returns-8 c = (rw (c .before .before .before .before .enum-told7 .given .1) (sym (step (seen _) (aRanged 53) _ _ (c .before .before .before .ranged3 .ensures .0) (c .before .week .given .1) ∙ run-give _ _)), omega (arith, ap place (c .before .week .given .1)))
 
 returns-9 : tie.Need-returns-9
 returns-9 c = (rw (c .before .enum-told9 .given .1) (c .week-and-weekday .ensures .0), c .week-and-weekday .ensures .1)

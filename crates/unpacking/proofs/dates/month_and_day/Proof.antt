@@ -3,6 +3,7 @@ use mathlib.Core.Path.{_∙_, ap, refl, sym}
 use native.Mathlib.Omega.{arith}
 use borrow.Author.Needs.{needs}
 use Rattle.fields.specs.Fields.{binaryDigits, width}
+use Rattle.fields.specs.Readings.{aRanged}
 use Rattle.rows.specs.Readings.{readDay}
 use Rattle.unpacking.proofs.Laws.Steps.{run-give, step}
 use Rattle.unpacking.specs.Steps.{numberOf, place, seen}
@@ -21,7 +22,7 @@ enum-told c = search needs
 
 returns : tie.Need-returns
 unfolding readDay
-returns c = (sym (step (seen _) _ _ _ (c .before .before .ranged .ensures .0) (c .enum-told .given .1)), omega arith)
+returns c = (sym (step (seen _) (aRanged 12) _ _ (c .before .before .ranged .ensures .0) (c .enum-told .given .1)), omega arith)
 
 ranged-requires-2 : tie.Need-ranged-requires-2
 unfolding width binaryDigits
@@ -35,7 +36,7 @@ enum-told-2 c = search needs
 
 returns-2 : tie.Need-returns-2
 unfolding readDay
-returns-2 c = (sym (step (seen _) _ _ _ (c .before .before .before .before .before .before .ranged .ensures .0) (c .before .before .before .before .month .given .1) ∙ step (seen _) _ _ _ (c .before .before .ranged2 .ensures .0) (c .enum-told2 .given .1)), omega arith)
+returns-2 c = (sym (step (seen _) (aRanged 12) _ _ (c .before .before .before .before .before .before .ranged .ensures .0) (c .before .before .before .before .month .given .1) ∙ step (seen _) (aRanged 31) _ _ (c .before .before .ranged2 .ensures .0) (c .enum-told2 .given .1)), omega arith)
 
 add-t10 : tie.Need-add-t10
 add-t10 c = omega (arith, ap numberOf (c .before .before .before .before .before .month .given .1))
@@ -45,7 +46,7 @@ add-t11 c = omega (arith, ap numberOf (c .before .day .given .1))
 
 returns-3 : tie.Need-returns-3
 unfolding readDay
-returns-3 c = (sym (step (seen _) _ _ _ (c .before .before .before .before .before .before .before .ranged .ensures .0) (c .before .before .before .before .before .month .given .1) ∙ step (seen _) _ _ _ (c .before .before .before .ranged2 .ensures .0) (c .before .day .given .1) ∙ run-give _ _), omega (arith, ap place (c .before .before .before .before .before .month .given .1), ap place (c .before .day .given .1)))
+returns-3 c = (sym (step (seen _) (aRanged 12) _ _ (c .before .before .before .before .before .before .before .ranged .ensures .0) (c .before .before .before .before .before .month .given .1) ∙ step (seen _) (aRanged 31) _ _ (c .before .before .before .ranged2 .ensures .0) (c .before .day .given .1) ∙ run-give _ _), omega (arith, ap place (c .before .before .before .before .before .month .given .1), ap place (c .before .day .given .1)))
 
 pub month-and-day-spec : {M : Type 1} → statement M
 month-and-day-spec =

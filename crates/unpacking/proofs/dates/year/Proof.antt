@@ -3,6 +3,7 @@ use mathlib.Core.Path.{_∙_, ap, refl, sym}
 use native.Mathlib.Omega.{arith}
 use borrow.Author.Needs.{needs}
 use Rattle.fields.specs.Fields.{binaryDigits, width}
+use Rattle.fields.specs.Readings.{aRanged}
 use Rattle.rows.specs.Readings.{readYear}
 use Rattle.unpacking.proofs.Laws.Steps.{step}
 use Rattle.unpacking.specs.Steps.{place, seen}
@@ -24,7 +25,7 @@ enum-told-2 c = search needs
 
 returns : tie.Need-returns
 unfolding readYear
-returns c = (rw (c .before .before .before .enum-told .given .1) (sym (step (seen _) _ _ _ (c .before .before .ranged .ensures .0) (c .enum-told2 .given .1))), omega arith)
+returns c = (rw (c .before .before .before .enum-told .given .1) (sym (step (seen _) (aRanged 4) _ _ (c .before .before .ranged .ensures .0) (c .enum-told2 .given .1))), omega arith)
 
 chosen-year-requires : tie.Need-chosen-year-requires
 chosen-year-requires c κs = omega (arith, ap place (c .before .choice .given .1))
@@ -37,7 +38,7 @@ free-requires c κs = search needs
 
 returns-2 : tie.Need-returns-2
 unfolding readYear
-returns-2 c = (rw (c .before .before .before .before .before .enum-told .given .1) (c .chosen-year .ensures .0 ∙ sym (step (seen _) _ _ _ (c .before .before .before .before .ranged .ensures .0) (c .before .before .choice .given .1))), omega (arith, ap place (c .before .before .choice .given .1)))
+returns-2 c = (rw (c .before .before .before .before .before .enum-told .given .1) (c .chosen-year .ensures .0 ∙ sym (step (seen _) (aRanged 4) _ _ (c .before .before .before .before .ranged .ensures .0) (c .before .before .choice .given .1))), omega (arith, ap place (c .before .before .choice .given .1)))
 
 returns-3 : tie.Need-returns-3
 unfolding readYear

@@ -1,5 +1,6 @@
 -- `numbers::free` meets its contract, test by test.
 use mathlib.Core.Path.{ap}
+use Prim.Native.Nat.{_<_, _≤_}
 use native.Mathlib.Omega.{arith}
 use borrow.Author.Needs.{needs}
 use borrow.Author.Tests.{le-leb, lt-leb}
@@ -21,10 +22,15 @@ returns : tie.Need-returns
 returns c = (rw (free-by _ (told (seen _) (c .before .before .field .ensures .0) (c .enum-told .given .1))), omega arith)
 
 returns-2 : tie.Need-returns-2
-returns-2 c = (rw (free-by _ (told (seen _) (c .before .before .before .before .field .ensures .0) (c .before .before .count .given .1)), lt-leb 1 _ (c .if1 .taken)), omega arith)
+returns-2 c =
+    let h : c .before .before .count .given .0 .0 < 1 = omega arith in
+    (rw (free-by _ (told (seen _) (c .before .before .before .before .field .ensures .0) (c .before .before .count .given .1)), lt-leb 1 _ h), omega arith)
 
 returns-3 : tie.Need-returns-3
-returns-3 c = (rw (free-by _ (told (seen _) (c .before .before .before .before .before .field .ensures .0) (c .before .before .before .count .given .1)), le-leb 1 _ (c .before .if1 .left), lt-leb _ 4 (c .if2 .taken)), omega arith)
+returns-3 c =
+    let l : 1 ≤ c .before .before .before .count .given .0 .0 = omega arith in
+    let h : 4 < c .before .before .before .count .given .0 .0 = omega arith in
+    (rw (free-by _ (told (seen _) (c .before .before .before .before .before .field .ensures .0) (c .before .before .before .count .given .1)), le-leb 1 _ l, lt-leb _ 4 h), omega arith)
 
 width-of-requires : tie.Need-width-of-requires
 width-of-requires c κs = search needs
@@ -42,7 +48,9 @@ returns-4 : tie.Need-returns-4
 returns-4 c = (rw (free-by _ (told (seen _) (c .before .before .before .before .before .before .before .before .before .field .ensures .0) (c .before .before .before .before .before .before .before .count .given .1)), le-leb 1 _ (c .before .before .before .before .before .if1 .left), le-leb _ 4 (c .before .before .before .before .if2 .left), told (seen _) (rw (c .before .before .before .width-of .ensures) at (c .before .before .field2 .ensures .0)) (c .enum-told2 .given .1)), omega arith)
 
 signed-requires : tie.Need-signed-requires
-signed-requires c κs = let z = ap numberOf (c .before .number .given .1) in (omega arith, rw (← c .before .before .before .before .width-of .ensures) (rw z at (c .before .before .before .field2 .ensures .1 .0)))
+signed-requires c κs =
+    let z = ap numberOf (c .before .number .given .1) in
+    (omega arith, rw (← c .before .before .before .before .width-of .ensures) (rw z at (c .before .before .before .field2 .ensures .1 .0)))
 
 returns-5 : tie.Need-returns-5
 returns-5 c = (rw (free-by _ (told (seen _) (c .before .before .before .before .before .before .before .before .before .before .before .field .ensures .0) (c .before .before .before .before .before .before .before .before .before .count .given .1)), le-leb 1 _ (c .before .before .before .before .before .before .before .if1 .left), le-leb _ 4 (c .before .before .before .before .before .before .if2 .left), told (seen _) (rw (c .before .before .before .before .before .width-of .ensures) at (c .before .before .before .before .field2 .ensures .0)) (c .before .before .number .given .1), c .signed .ensures .0), omega (arith, c .signed .ensures .1, ap place (c .before .before .before .before .before .before .before .before .before .count .given .1), c .before .before .before .before .before .width-of .ensures, ap place (c .before .before .number .given .1)))

@@ -3,6 +3,7 @@ use mathlib.Core.Path.{_∙_, ap, refl, sym}
 use native.Mathlib.Omega.{arith}
 use borrow.Author.Needs.{needs}
 use Rattle.fields.specs.Fields.{binaryDigits, width}
+use Rattle.fields.specs.Readings.{aRanged}
 use Rattle.unpacking.proofs.Laws.Rows.{clock-hours}
 use Rattle.unpacking.proofs.Laws.Steps.{step}
 use Rattle.unpacking.specs.Steps.{place, seen}
@@ -20,13 +21,13 @@ enum-told : tie.Need-enum-told
 enum-told c = search needs
 
 returns : tie.Need-returns
-returns c = (rw clock-hours (sym (step (seen _) _ _ _ (c .before .before .ranged .ensures .0) (c .enum-told .given .1))), omega arith)
+returns c = (rw clock-hours (sym (step (seen _) (aRanged 25) _ _ (c .before .before .ranged .ensures .0) (c .enum-told .given .1))), omega arith)
 
 after-hours-requires : tie.Need-after-hours-requires
 after-hours-requires c κs = omega (arith, ap place (c .before .hours .given .1))
 
 returns-2 : tie.Need-returns-2
-returns-2 c = (rw clock-hours (c .after-hours .ensures .0 ∙ sym (step (seen _) _ _ _ (c .before .before .before .before .ranged .ensures .0) (c .before .before .hours .given .1))), omega (arith, ap place (c .before .before .hours .given .1)))
+returns-2 c = (rw clock-hours (c .after-hours .ensures .0 ∙ sym (step (seen _) (aRanged 25) _ _ (c .before .before .before .before .ranged .ensures .0) (c .before .before .hours .given .1))), omega (arith, ap place (c .before .before .hours .given .1)))
 
 pub clock-spec : {M : Type 1} → statement M
 clock-spec =

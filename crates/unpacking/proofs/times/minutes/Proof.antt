@@ -5,6 +5,7 @@ use native.Mathlib.Numerals.{add-one}
 use native.Mathlib.Omega.{arith}
 use borrow.Author.Needs.{needs}
 use Rattle.fields.specs.Fields.{binaryDigits, width}
+use Rattle.fields.specs.Readings.{aRanged}
 use Rattle.rows.specs.Readings.{readMinutes}
 use Rattle.unpacking.proofs.Laws.Rows.{minutes-some}
 use Rattle.unpacking.proofs.Laws.Steps.{run-give, step}
@@ -27,13 +28,17 @@ enum-told : tie.Need-enum-told
 enum-told c = search needs
 
 returns-2 : tie.Need-returns-2
-returns-2 c = let e : 1 ≤ c .before .before .before .before .before .args .present = omega arith in rw (minutes-some _ e) (sym (step (seen _) _ _ _ (c .before .before .ranged .ensures .0) (c .enum-told .given .1)))
+returns-2 c =
+    let e : 1 ≤ c .before .before .before .before .before .args .present = omega arith in
+    rw (minutes-some _ e) (sym (step (seen _) (aRanged 59) _ _ (c .before .before .ranged .ensures .0) (c .enum-told .given .1)))
 
 add-t8 : tie.Need-add-t8
 add-t8 c = omega (arith, ap numberOf (c .before .number .given .1))
 
 returns-3 : tie.Need-returns-3
-returns-3 c = let e : 1 ≤ c .before .before .before .before .before .before .args .present = omega arith in rw (minutes-some _ e, add-one) (sym (step (seen _) _ _ _ (c .before .before .before .ranged .ensures .0) (c .before .number .given .1) ∙ run-give _ _))
+returns-3 c =
+    let e : 1 ≤ c .before .before .before .before .before .before .args .present = omega arith in
+    rw (minutes-some _ e, add-one) (sym (step (seen _) (aRanged 59) _ _ (c .before .before .before .ranged .ensures .0) (c .before .number .given .1) ∙ run-give _ _))
 
 pub minutes-spec : {M : Type 1} → statement M
 minutes-spec =
