@@ -85,7 +85,8 @@ fn compare(t: Type, octets: &[u8], value: Value, room: &mut [u8]) -> Outcome
     let own = packed.octets;
     let bits = packed.bits;
     let length = bits.octets().count;
-    if !same(octets, &own[..length]) {
+    let encoding = &own[..length];
+    if !same(octets, encoding) {
         return Outcome::refused(Refusal::Encoding);
     }
     write_text(value, bits, room)

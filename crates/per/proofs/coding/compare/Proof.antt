@@ -25,8 +25,8 @@ octets-requires c κs = search needs
 array-share-prefix-own : tie.Need-array-share-prefix-own
 array-share-prefix-own c = let w : length (c .before .before .before .pack .result .octets) ≡ 16 = search needs in omega (arith, packed-short _ _ (c .before .before .before .pack .ensures) (ap (λ (o : Octets). o .count) (c .octets .ensures)))
 
-slice-aggregate-same : tie.Need-slice-aggregate-same
-slice-aggregate-same c = sym (length-take-le _ _ (let w : length (c .before .before .before .before .pack .result .octets) ≡ 16 = search needs in omega (arith, packed-short _ _ (c .before .before .before .before .pack .ensures) (ap (λ (o : Octets). o .count) (c .before .octets .ensures)))))
+slice-aggregate-encoding : tie.Need-slice-aggregate-encoding
+slice-aggregate-encoding c = sym (length-take-le _ _ (let w : length (c .before .before .before .before .pack .result .octets) ≡ 16 = search needs in omega (arith, packed-short _ _ (c .before .before .before .before .pack .ensures) (ap (λ (o : Octets). o .count) (c .before .octets .ensures)))))
 
 same-requires : tie.Need-same-requires
 same-requires c κs = search needs
@@ -56,7 +56,7 @@ compare-spec =
     pack-requires
     octets-requires
     array-share-prefix-own
-    slice-aggregate-same
+    slice-aggregate-encoding
     same-requires
     refused-requires
     returns
