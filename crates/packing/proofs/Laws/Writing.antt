@@ -2,19 +2,20 @@
 use mathlib.Core.Path.{_≡_, refl, sym, ap, ap₂, _∙_, subst}
 use mathlib.Core.List.{List, [], _∷_, _++_, append-assoc, append-nil}
 use Prim.Native.Nat.{ℕ, suc, _+_, _-_, _*_, _/_, _%_, _^_, _≤_, _<_}
+use native.Mathlib.Nat.{add-zero, mod-eq-of-lt}
 use native.Mathlib.Numerals.{add-one}
 use native.Mathlib.Omega.{arith}
-use lib.Pow.{shl-lt}
+use lib.Pow.{pow-pos, shl-lt}
 use lib.ListN.{length-append, getD, length, take, drop, set, replicate, take-append-drop}
 use lib.Seq.{length-take-le, getD-take, take-suc-set, set-split, drop-set-lt, drop-drop, append-snoc}
 use Rattle.answers.specs.Counts.{octetsFor}
 use Rattle.fields.specs.Bits.{BitString, bitsOf, numberIn, packed, octetsOf, unpacked}
-use Rattle.fields.proofs.Laws.Bits.{bits-split, bits-mod, length-bits, unpacked-append, length-unpacked, length-octets, packed-more, number-fill}
+use Rattle.fields.proofs.Laws.Bits.{bits-split, bits-mod, length-bits, unpacked-append, length-unpacked, length-octets, packed-more, number-bits, number-fill}
 use Rattle.packing.specs.declared.groups.Group.{Group}
 use Rattle.packing.specs.declared.octets.Pen.{Pen}
 use Rattle.packing.specs.Groups.{groupBits, Fits}
 use Rattle.packing.specs.Writing.{Room, Ready, Put, Flushed, written, finished}
-use Rattle.packing.proofs.Laws.Groups.{joined-bits}
+use Rattle.packing.proofs.Laws.Groups.{joined-lt, joined-bits}
 
 -- ---- flush
 
@@ -52,6 +53,21 @@ appended p ready g small m e before after r f = record {
 
 -- ---- finish
 
+same-bits : (w a b : ℕ) → a < 2 ^ w → b < 2 ^ w → bitsOf w a ≡ bitsOf w b → a ≡ b
+same-bits w a b h k e =
+    let f : numberIn w (bitsOf w a ++ []) ≡ numberIn w (bitsOf w b ++ []) = ap (λ (l : BitString). numberIn w (l ++ [])) e in
+    sym (number-bits w a [] ∙ mod-eq-of-lt h) ∙ f ∙ number-bits w b [] ∙ mod-eq-of-lt k
+
+-- A group of h bits and k zeros.
+pub filled : (g : Group) → g .number < 2 ^ (g .width) → (h k acc : ℕ) → acc < 2 ^ h → groupBits g ≡ bitsOf h acc ++ bitsOf k 0 → g .number ≡ acc * 2 ^ k
+unfolding groupBits
+filled g small h k acc l e =
+    let w : g .width ≡ h + k =
+    sym (length-bits (g .width) (g .number)) ∙ ap length e ∙ length-append (bitsOf h acc) (bitsOf k 0) ∙ ap₂ (λ (a b : ℕ). a + b) (length-bits h acc) (length-bits k 0) in
+    let s : g .number < 2 ^ (h + k) = subst (λ (n : ℕ). g .number < 2 ^ n) w small in
+    let f : bitsOf (h + k) (g .number) ≡ bitsOf (h + k) (acc * 2 ^ k + 0) = ap (λ (n : ℕ). bitsOf n (g .number)) (sym w) ∙ e ∙ sym (joined-bits h k acc 0 (2 ^ k) refl l (pow-pos k)) in
+    same-bits (h + k) (g .number) (acc * 2 ^ k + 0) s (joined-lt h k acc 0 (2 ^ k) refl l (pow-pos k)) f ∙ add-zero (acc * 2 ^ k)
+
 module _ (out : List ℕ) (p : Pen) (ready : Ready p) (room : Room out (p .octets) (p .held)) (bytes : (i : ℕ) → getD out i 0 < 256) where
   len : length (take (p .octets) out) ≡ p .octets
   len = length-take-le (p .octets) out (omega arith)
@@ -78,27 +94,27 @@ module _ (out : List ℕ) (p : Pen) (ready : Ready p) (room : Room out (p .octet
       let e : octetsOf (written out p) ≡ take (p .octets) out = octets-written 0 (omega arith) ∙ append-nil _ in
       sym (ap (λ (l : List ℕ). l ++ drop (length l) out) e ∙ ap (λ (n : ℕ). take (p .octets) out ++ drop n out) len ∙ take-append-drop (p .octets) out)
 
-  pub last-lt : (m : ℕ) → m ≡ 2 ^ (8 - p .held) → p .acc * m < 256
-  last-lt m e =
-      let k : p .held + (8 - p .held) ≡ 8 = omega (arith, ready .few) in
-      subst (λ (n : ℕ). p .acc * n < 256) (sym e) (subst (λ (n : ℕ). p .acc * 2 ^ (8 - p .held) < 2 ^ n) k (shl-lt (p .held) (8 - p .held) (ready .small)))
+  module _ (x : ℕ) (is : x ≡ p .acc * 2 ^ (8 - p .held)) where
+    pub last-lt : x < 256
+    last-lt =
+        let k : p .held + (8 - p .held) ≡ 8 = omega (arith, ready .few) in
+        subst (λ (n : ℕ). n < 256) (sym is) (subst (λ (n : ℕ). p .acc * 2 ^ (8 - p .held) < 2 ^ n) k (shl-lt (p .held) (8 - p .held) (ready .small)))
 
-  pub finished-part : (m : ℕ) → m ≡ 2 ^ (8 - p .held) → 0 < p .held → set out (p .octets) (p .acc * m) ≡ finished out p
-  unfolding finished packed
-  finished-part m e h =
-      let n : ℕ = p .octets in
-      let b : ℕ = p .acc * m in
-      let k : p .held + (8 - p .held) ≡ 8 = omega (arith, ready .few) in
-      let inside : n < length out = omega arith in
-      let last : numberIn 8 (bitsOf (p .held) (p .acc)) ≡ b =
-      sym (ap (λ (j : ℕ). p .acc * j) e ∙ sym (number-fill (p .held) (8 - p .held) (p .acc) (ready .small)) ∙ ap (λ (j : ℕ). numberIn j (bitsOf (p .held) (p .acc))) k) in
-      let f : octetsOf (written out p) ≡ take n out ++ (b ∷ []) = octets-written 1 (omega (arith, ready .few)) ∙ ap (λ (x : ℕ). take n out ++ (x ∷ [])) last in
-      let l : length (take n out ++ (b ∷ [])) ≡ suc n = length-append (take n out) (b ∷ []) ∙ omega (arith, len) in
-      sym (
-      ap (λ (o : List ℕ). o ++ drop (length o) out) f
-      ∙ ap (λ (j : ℕ). (take n out ++ (b ∷ [])) ++ drop j out) l
-      ∙ append-assoc (take n out) (b ∷ []) (drop (suc n) out)
-      ∙ sym (set-split out n b inside))
+    pub finished-part : 0 < p .held → set out (p .octets) x ≡ finished out p
+    unfolding finished packed
+    finished-part h =
+        let n : ℕ = p .octets in
+        let k : p .held + (8 - p .held) ≡ 8 = omega (arith, ready .few) in
+        let inside : n < length out = omega arith in
+        let last : numberIn 8 (bitsOf (p .held) (p .acc)) ≡ x =
+        sym (is ∙ sym (number-fill (p .held) (8 - p .held) (p .acc) (ready .small)) ∙ ap (λ (j : ℕ). numberIn j (bitsOf (p .held) (p .acc))) k) in
+        let f : octetsOf (written out p) ≡ take n out ++ (x ∷ []) = octets-written 1 (omega (arith, ready .few)) ∙ ap (λ (y : ℕ). take n out ++ (y ∷ [])) last in
+        let l : length (take n out ++ (x ∷ [])) ≡ suc n = length-append (take n out) (x ∷ []) ∙ omega (arith, len) in
+        sym (
+        ap (λ (o : List ℕ). o ++ drop (length o) out) f
+        ∙ ap (λ (j : ℕ). (take n out ++ (x ∷ [])) ++ drop j out) l
+        ∙ append-assoc (take n out) (x ∷ []) (drop (suc n) out)
+        ∙ sym (set-split out n x inside))
 
 -- ---- from put to put
 

@@ -1,6 +1,11 @@
 -- `octets::finish` meets its contract.
+use mathlib.Core.Path.{_≡_, ap, _∙_}
+use mathlib.Core.List.{_++_}
+use Prim.Native.Nat.{_-_, _*_, _^_}
 use native.Mathlib.Omega.{arith}
-use Rattle.packing.proofs.Laws.Writing.{finished-whole, finished-part, last-lt}
+use Rattle.fields.specs.Bits.{BitString, bitsOf}
+use Rattle.packing.specs.Groups.{groupBits}
+use Rattle.packing.proofs.Laws.Writing.{filled, finished-whole, finished-part, last-lt}
 use borrow.Author.Needs.{needs}
 use Rattle.packing.proofs.octets.finish.Statement.{statement}
 use Rattle.packing.proofs.octets.finish.Tie as tie
@@ -10,22 +15,27 @@ returns c =
     let s = c .before .before in
     finished-whole (s .args .out .now) (s .args .pen) (s .pre .0) (s .pre .1) (λ i. c .before .slice-known .given i .fits) (c .if1 .taken)
 
-sub-power : tie.Need-sub-power
-sub-power c = search needs
+sub-field : tie.Need-sub-field
+sub-field c = search needs
 
-power-requires : tie.Need-power-requires
-power-requires c κs = search needs
+field-requires : tie.Need-field-requires
+field-requires c κs = search needs
 
-mul-out : tie.Need-mul-out
-mul-out c =
+join-requires : tie.Need-join-requires
+join-requires c κs = search needs
+
+-- The bits that wait, and zeros.
+last : (c : tie.After-join) → let p = c .before .before .before .before .args .pen in c .join .result .number ≡ p .acc * 2 ^ (8 - p .held)
+unfolding groupBits
+last c =
     let s = c .before .before .before .before in
-    let h = last-lt (s .args .out .now) (s .args .pen) (s .pre .0) (s .pre .1) (λ i. c .before .before .before .slice-known .given i .fits) _ (c .before .power .ensures) in
-    omega arith
+    let p = s .args .pen in
+    filled (c .join .result) (c .join .ensures .1 .small) (p .held) (8 - p .held) (p .acc) (s .pre .0 .small) (c .join .ensures .0 ∙ ap (λ (l : BitString). bitsOf (p .held) (p .acc) ++ l) (c .before .field .ensures .0))
 
 cast-out : tie.Need-cast-out
 cast-out c =
-    let s = c .before .before .before .before in
-    record { fits = last-lt (s .args .out .now) (s .args .pen) (s .pre .0) (s .pre .1) (λ i. c .before .before .before .slice-known .given i .fits) _ (c .before .power .ensures) }
+    let s = c .before .before .before .before .before in
+    record { fits = last-lt (s .args .out .now) (s .args .pen) (s .pre .0) (s .pre .1) (λ i. c .before .before .before .before .slice-known .given i .fits) _ (last (c .before)) }
 
 slice-write-out : tie.Need-slice-write-out
 slice-write-out c = search needs
@@ -35,17 +45,17 @@ same-length c = search needs
 
 returns-2 : tie.Need-returns-2
 returns-2 c =
-    let s = c .before .before .before .before in
-    finished-part (s .args .out .now) (s .args .pen) (s .pre .0) (s .pre .1) (λ i. c .before .before .before .slice-known .given i .fits) _ (c .before .power .ensures) (omega arith)
+    let s = c .before .before .before .before .before in
+    finished-part (s .args .out .now) (s .args .pen) (s .pre .0) (s .pre .1) (λ i. c .before .before .before .before .slice-known .given i .fits) _ (last (c .before)) (omega arith)
 
 pub finish-spec : {M : Type 1} → statement M
 finish-spec =
     tie.close
     (tie.spec
     returns
-    sub-power
-    power-requires
-    mul-out
+    sub-field
+    field-requires
+    join-requires
     cast-out
     slice-write-out
     same-length

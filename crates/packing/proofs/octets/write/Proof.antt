@@ -70,17 +70,19 @@ finish-requires c κs =
     let w = ended (c .before .before) in
     (w .ready, omega (arith, w .place, w .len, count (c .before .before)))
 
-add-t19 : tie.Need-add-t19
-add-t19 c = search needs
+add-count : tie.Need-add-count
+add-count c = search needs
 
-add-t20 : tie.Need-add-t20
-add-t20 c = search needs
+add-count-2 : tie.Need-add-count-2
+add-count-2 c = search needs
 
 returns : tie.Need-returns
 returns c =
-    let e = c .before .before .before .before .before .before .before in
+    let f = c .before .before .before .before in
+    let e = f .before .before .before in
     let a = e .before .before .before .before .before .before .before .before .args in
-    packed-bits _ _ (c .before .before .before .before .finish .ensures ∙ wrote-finish (ended e)) (count e) (append-assoc (groupBits (a .date)) (groupBits (a .clock)) (groupBits (a .after)))
+    let n = count e in
+    packed-bits _ _ (f .finish .ensures ∙ wrote-finish (ended e)) n (append-assoc (groupBits (a .date)) (groupBits (a .clock)) (groupBits (a .after)))
 
 pub write-spec : {M : Type 1} → statement M
 write-spec =
@@ -94,6 +96,6 @@ write-spec =
     put-requires-3
     slice-aggregate-finish
     finish-requires
-    add-t19
-    add-t20
+    add-count
+    add-count-2
     returns)
