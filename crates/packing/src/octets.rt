@@ -1,8 +1,7 @@
 // Groups written as octets.
 ghost use mathlib.Core.Path.{_≡_};
 ghost use mathlib.Core.List.{_++_};
-ghost use Prim.Native.Nat.{_+_, _<_, _≤_};
-ghost use lib.ListN.{length};
+ghost use Prim.Native.Nat.{_+_, _<_};
 ghost use Rattle.packing.specs.Groups.{groupBits, Fits};
 ghost use Rattle.packing.specs.Writing.{Room, Ready, Put, Flushed, finished};
 ghost use Rattle.packing.specs.Packed.{packedBits, packedOf};
