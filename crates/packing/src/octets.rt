@@ -1,13 +1,14 @@
 // Groups written as octets.
 ghost use mathlib.Core.Path.{_≡_};
 ghost use mathlib.Core.List.{_++_};
-ghost use Prim.Native.Nat.{_+_, _<_, _≤_};
-ghost use lib.ListN.{length};
+ghost use Prim.Native.Nat.{_+_, _<_};
 ghost use Rattle.packing.specs.Groups.{groupBits, Fits};
 ghost use Rattle.packing.specs.Writing.{Room, Ready, Put, Flushed, finished};
 ghost use Rattle.packing.specs.Packed.{packedBits, packedOf};
 use crate::dates::date_part;
 use crate::groups::Group;
+use crate::groups::field;
+use crate::groups::join;
 use crate::groups::power;
 use crate::times::after_part;
 use crate::times::clock_part;
@@ -74,7 +75,12 @@ fn finish(out: &mut [u8], pen: Pen)
     if held == 0 {
         return;
     }
-    out[n] = (pen.acc * power(8 - held)) as u8;
+    let waiting = Group {
+        number: pen.acc,
+        width: held,
+    };
+    let last = join(waiting, field(8 - held, 0));
+    out[n] = last.number as u8;
 }
 
 // Three groups in a buffer.
@@ -94,11 +100,10 @@ fn write(date: Group, clock: Group, after: Group) -> Packed
     let timed = put(&mut octets, dated, clock);
     let end = put(&mut octets, timed, after);
     finish(&mut octets, end);
+    let count = date.width + clock.width + after.width;
     Packed {
         octets,
-        bits: Bits {
-            count: date.width + clock.width + after.width,
-        },
+        bits: Bits { count },
     }
 }
 

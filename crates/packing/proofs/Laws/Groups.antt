@@ -1,11 +1,12 @@
 -- Numbers joined, free integers, and the layouts of few fields.
 use mathlib.Core.Path.{_≡_, refl, sym, ap, ap₂, _∙_, subst}
-use mathlib.Core.Bool.{Bool, true, false, cond}
+use mathlib.Core.Bool.{cond}
 use mathlib.Core.Logic.{_≢_}
-use mathlib.Core.List.{List, [], _∷_, _++_, append-nil}
+use mathlib.Core.List.{[], _∷_, _++_, append-nil}
 use Prim.Native.Nat.{ℕ, zero, suc, _+_, _-_, _*_, _/_, _^_, _≤_, _<_}
 use native.Mathlib.Nat.{lt-of-lt-of-le}
 use native.Mathlib.Omega.{arith}
+use borrow.Author.Tests.{lt-ltb, le-ltb}
 use lib.Arith.{digits-lt}
 use lib.Dec.{ltb}
 use lib.IntN.{ℤ, pos, negsuc}
@@ -17,7 +18,7 @@ use Rattle.fields.specs.Bits.{BitString, bitsOf}
 use Rattle.fields.specs.Integers.{half, within as inOctets, fewest, twos}
 use Rattle.fields.specs.Fields.{Field, Ranged, Free, fieldBits, layout}
 use Rattle.fields.proofs.Laws.Bits.{bits-join}
-use Rattle.rows.specs.Fields.{longFraction, fractionFields, differenceFields}
+use Rattle.rows.specs.Fields.{otherYear, choiceOfYear, longFraction, fractionFields, differenceFields}
 use Rattle.packing.specs.Groups.{integerBits}
 
 -- ---- a number of a bits and then one of b bits, as the code joins them
@@ -34,16 +35,28 @@ module _ (a b x y p : ℕ) (e : p ≡ 2 ^ b) (high : x < 2 ^ a) (low : y < 2 ^ b
 
 -- ---- free integers
 
--- Their width by the code's tests.
-pub integer-chain : (n : ℕ) → integerBits n ≡ cond (ltb n 128) 8 (cond (ltb n 32768) 16 (cond (ltb n 8388608) 24 32))
-unfolding integerBits fewest inOctets half
-integer-chain n = go (ltb n 128) (ltb n 32768) (ltb n 8388608)
-  where
-    go : (a b c : Bool) → 8 * cond a 1 (cond b 2 (cond c 3 4)) ≡ cond a 8 (cond b 16 (cond c 24 32))
-    go true b c = refl
-    go false true c = refl
-    go false false true = refl
-    go false false false = refl
+-- Their width, 8 to 32 bits.
+module _ (n : ℕ) where
+  pub width-8 : n < 128 → integerBits n ≡ 8
+  unfolding integerBits fewest inOctets half
+  width-8 h = simp (lt-ltb n 128 h)
+
+  pub width-16 : 128 ≤ n → n < 32768 → integerBits n ≡ 16
+  unfolding integerBits fewest inOctets half
+  width-16 l h = simp (le-ltb n 128 l, lt-ltb n 32768 h)
+
+  pub width-24 : 32768 ≤ n → n < 8388608 → integerBits n ≡ 24
+  unfolding integerBits fewest inOctets half
+  width-24 l h =
+      let m : 128 ≤ n = omega arith in
+      simp (le-ltb n 128 m, le-ltb n 32768 l, lt-ltb n 8388608 h)
+
+  pub width-32 : 8388608 ≤ n → integerBits n ≡ 32
+  unfolding integerBits fewest inOctets half
+  width-32 l =
+      let m : 128 ≤ n = omega arith in
+      let k : 32768 ≤ n = omega arith in
+      simp (le-ltb n 128 m, le-ltb n 32768 k, le-ltb n 8388608 l)
 
 free-bits : (z : ℤ) (w v : ℕ) → w ≡ 8 * fewest z → v ≡ twos (fewest z) z
     → bitsOf 8 (octetsFor (record { count = w }) .count) ++ bitsOf w v ≡ fieldBits (Free z)
@@ -100,6 +113,38 @@ pub some-minutes : (h m : ℕ) → m ≢ 0 → differenceFields h m ≡ Ranged 2
 unfolding differenceFields
 some-minutes h zero e = absurd (e refl)
 some-minutes h (suc m) e = let k : m ≡ suc m - 1 = omega arith in ap (λ (n : ℕ). Ranged 2 1 ∷ Ranged 32 h ∷ Ranged 59 n ∷ []) k
+
+-- ---- the fields of a year since the year 0000, by the years of each choice
+
+module _ (n : ℕ) where
+  pub choice-0 : 2005 ≤ n → n < 2021 → choiceOfYear (pos n) ≡ Ranged 4 0 ∷ Ranged 16 (n - 2005) ∷ []
+  unfolding choiceOfYear
+  choice-0 l h =
+      let k : 1749 ≤ n = omega arith in
+      simp (le-ltb n 1749 k, le-ltb n 2005 l, lt-ltb n 2021 h)
+
+  pub choice-1 : 2021 ≤ n → n < 2277 → choiceOfYear (pos n) ≡ Ranged 4 1 ∷ Ranged 256 (n - 2021) ∷ []
+  unfolding choiceOfYear
+  choice-1 l h =
+      let k : 1749 ≤ n = omega arith in
+      let m : 2005 ≤ n = omega arith in
+      simp (le-ltb n 1749 k, le-ltb n 2005 m, le-ltb n 2021 l, lt-ltb n 2277 h)
+
+  pub choice-2 : 1749 ≤ n → n < 2005 → choiceOfYear (pos n) ≡ Ranged 4 2 ∷ Ranged 256 (n - 1749) ∷ []
+  unfolding choiceOfYear
+  choice-2 l h = simp (le-ltb n 1749 l, lt-ltb n 2005 h)
+
+  pub choice-3-early : n < 1749 → choiceOfYear (pos n) ≡ Ranged 4 3 ∷ Free (pos n) ∷ []
+  unfolding choiceOfYear otherYear
+  choice-3-early h = simp (lt-ltb n 1749 h)
+
+  pub choice-3-late : 2277 ≤ n → choiceOfYear (pos n) ≡ Ranged 4 3 ∷ Free (pos n) ∷ []
+  unfolding choiceOfYear otherYear
+  choice-3-late l =
+      let k : 1749 ≤ n = omega arith in
+      let m : 2005 ≤ n = omega arith in
+      let o : 2021 ≤ n = omega arith in
+      simp (le-ltb n 1749 k, le-ltb n 2005 m, le-ltb n 2021 o, le-ltb n 2277 l)
 
 -- ---- the year by its distance from the year 0000
 
