@@ -8,7 +8,7 @@ ghost use Rattle.texts.specs.declared.values.Zone.{Zone};
 ghost use Rattle.texts.specs.Octets.{hyphen, plus, letterW};
 ghost use Rattle.texts.specs.Digits.{putDigits};
 ghost use Rattle.texts.specs.Years.{yearDigits, putYear};
-ghost use Rattle.texts.specs.Forms.{yearOf, valueForm, formDigits};
+ghost use Rattle.texts.specs.Forms.{valueForm, formDigits};
 ghost use Rattle.texts.specs.Dates.{putAfter, putDate};
 ghost use Rattle.texts.specs.Times.{putClock, fraction, putFraction, putMinutes, putZone, canonical, putTime};
 ghost use Rattle.texts.specs.Texts.{textOf};
@@ -21,6 +21,7 @@ use texts::Difference;
 use texts::Time;
 use texts::Value;
 use texts::Zone;
+use texts::year_of;
 
 // The last w decimal digits of n.
 fn put_digits(b: &mut [u8], at: usize, w: usize, n: u64) -> usize
@@ -81,20 +82,6 @@ fn put_year(b: &mut [u8], at: usize, year: Year) -> usize
             let w = year_digits(n);
             put_field(b, at, b'+', w, n)
         }
-    }
-}
-
-// The year of a date.
-fn year_of(date: Date) -> Year
-    ensures { λ r. ⌜ r ≡ yearOf date ⌝ }
-{
-    match date {
-        Date::Y(year) => year,
-        Date::YM(year, _) => year,
-        Date::YMD(year, _, _) => year,
-        Date::YD(year, _) => year,
-        Date::YW(year, _) => year,
-        Date::YWD(year, _, _) => year,
     }
 }
 

@@ -1,6 +1,6 @@
 // Reading a year.
 ghost use mathlib.Core.Path.{_≡_};
-ghost use Prim.Native.Nat.{_^_, _<_, _≤_};
+ghost use Prim.Native.Nat.{_<_};
 ghost use lib.ListN.{drop};
 ghost use Rattle.calendar.specs.Years.{yearAt};
 ghost use Rattle.texts.specs.Years.{longest, signedFits, signedYear, getSigned, getYear};
@@ -11,23 +11,10 @@ use crate::fields::mark;
 use crate::steps::Step;
 use crate::steps::YearStep;
 use calendar::Year;
+use texts::has_digits;
 
 // The most digits of a year that is read.
 const LONGEST: usize = 5;
-
-// A power of ten.
-fn power(exponent: usize) -> u32
-    requires { ⌜ exponent ≤ 9 ⌝ }
-    ensures { λ r. ⌜ r ≡ 10 ^ exponent ⌝ }
-{
-    let mut count: usize = 0;
-    let mut product: u32 = 1;
-    while count < exponent {
-        product *= 10;
-        count += 1;
-    }
-    product
-}
 
 // Whether so many digits that give a number are a year's after a sign.
 fn signed_fits(below: bool, width: usize, number: u32) -> bool
@@ -42,7 +29,7 @@ fn signed_fits(below: bool, width: usize, number: u32) -> bool
     if width == 4 {
         return below && 0 < number;
     }
-    power(width - 1) <= number
+    !has_digits(number, (width - 1) as u32)
 }
 
 // The year of a sign and a number.

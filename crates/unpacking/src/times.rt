@@ -1,7 +1,6 @@
 // Reading a time.
 ghost use mathlib.Core.Path.{_≡_};
-ghost use Prim.Native.Nat.{_+_, _^_, _≤_};
-ghost use lib.Dec.{ltb};
+ghost use Prim.Native.Nat.{_+_, _≤_};
 ghost use Rattle.texts.specs.declared.forms.ZoneForm.{ZoneForm};
 ghost use Rattle.fields.specs.Readings.{run};
 ghost use Rattle.rows.specs.Readings.{readClock, readExtended, readFraction, readMinutes, differenceAt, readZone, readTime};
@@ -18,6 +17,7 @@ use texts::Time;
 use texts::TimeForm;
 use texts::Zone;
 use texts::ZoneForm;
+use texts::has_digits;
 
 // A part of a time with the place after it, or nothing.
 pub enum ClockStep {
@@ -71,30 +71,6 @@ fn clock(octets: &[u8], at: u32, form: ClockForm) -> ClockStep
         return ClockStep::Nothing;
     };
     after_hours(octets, next, hours, form)
-}
-
-// The powers of ten that 32 bits hold.
-const TENS: [u32; 10] = [
-    1,
-    10,
-    100,
-    1000,
-    10000,
-    100000,
-    1000000,
-    10000000,
-    100000000,
-    1000000000,
-];
-
-// Whether a number has no more than so many digits. Ten are enough for every number of 32 bits.
-fn has_digits(number: u32, digits: u32) -> bool
-    ensures { λ r. ⌜ r ≡ ltb number (10 ^ digits) ⌝ }
-{
-    if 9 < digits {
-        return true;
-    }
-    number < TENS[digits as usize]
 }
 
 // The number of a fraction after its first bit: of a range, or any other that is not negative.

@@ -1,5 +1,4 @@
 ghost use mathlib.Core.Path.{_≡_};
-ghost use Prim.Native.Nat.{_≤_, _^_};
 ghost use Rattle.values.specs.Existence.{hoursOf, minutesOf, secondsOf, existsClock, existsFraction, existsDifference, existsZone, existsTime, existsValue};
 use calendar::date_exists;
 use texts::Clock;
@@ -7,6 +6,7 @@ use texts::Difference;
 use texts::Time;
 use texts::Value;
 use texts::Zone;
+use texts::has_digits;
 
 // The hours of a clock. Of its fields, one that it does not show is 0.
 pub(crate) fn hours(clock: Clock) -> u32
@@ -63,20 +63,6 @@ fn clock_exists(hours: u32, minutes: u32, seconds: u32, fraction: u32) -> bool
     seconds <= 60
 }
 
-// The number of fractions of so many digits.
-fn power_of_ten(digits: u32) -> u32
-    requires { ⌜ digits ≤ 9 ⌝ }
-    ensures { λ r. ⌜ r ≡ 10 ^ digits ⌝ }
-{
-    let mut power: u32 = 1;
-    let mut i: u32 = 0;
-    while i < digits {
-        power *= 10;
-        i += 1;
-    }
-    power
-}
-
 // Whether the fraction has at most nine digits and is one of those that they give.
 fn fraction_exists(digits: u32, fraction: u32) -> bool
     ensures { λ r. ⌜ r ≡ existsFraction digits fraction ⌝ }
@@ -84,7 +70,7 @@ fn fraction_exists(digits: u32, fraction: u32) -> bool
     if 9 < digits {
         return false;
     }
-    fraction < power_of_ten(digits)
+    has_digits(fraction, digits)
 }
 
 // Whether there is such a difference.

@@ -5,7 +5,6 @@ ghost use Rattle.texts.specs.Forms.{dateForm, clockForm, zoneForm, timeForm};
 ghost use Rattle.types.specs.Numbers.{dateNumber, clockNumber, zoneNumber};
 ghost use Rattle.types.specs.Types.{formOfParts, formOf};
 ghost use Rattle.values.specs.Forms.{sameDateForm, sameTimeForm};
-ghost use Rattle.texts.specs.Forms.{yearOf};
 ghost use Rattle.values.specs.Holding.{between, inFive, inPlain, inSigned, inYears, inWindow, admitsDate, admitsTime, inType, holdsOf};
 use crate::existence::hours;
 use crate::existence::value_exists;
@@ -19,6 +18,7 @@ use texts::TimeForm;
 use texts::Value;
 use texts::Zone;
 use texts::ZoneForm;
+use texts::year_of;
 use types::numbers::clock_number;
 use types::numbers::date_number;
 use types::numbers::zone_number;
@@ -102,20 +102,6 @@ fn same_time_form(a: TimeForm, b: TimeForm) -> bool
     let zone = a.zone;
     let other = b.zone;
     zone_number(zone) == zone_number(other)
-}
-
-// The year of a date.
-fn year_of(date: Date) -> Year
-    ensures { λ r. ⌜ r ≡ yearOf date ⌝ }
-{
-    match date {
-        Date::Y(year) => year,
-        Date::YM(year, _) => year,
-        Date::YMD(year, _, _) => year,
-        Date::YD(year, _) => year,
-        Date::YW(year, _) => year,
-        Date::YWD(year, _, _) => year,
-    }
 }
 
 // Whether a year lies from the lowest to the highest.

@@ -9,12 +9,12 @@ returns : tie.Need-returns
 unfolding existsFraction
 returns c = simp (lt-leb _ _ (c .if1 .taken))
 
-power-of-ten-requires : tie.Need-power-of-ten-requires
-power-of-ten-requires c κs = search needs
+has-digits-requires : tie.Need-has-digits-requires
+has-digits-requires c κs = search needs
 
 returns-2 : tie.Need-returns-2
 unfolding existsFraction
-returns-2 c = simp (le-leb _ _ (c .before .if1 .left), c .power-of-ten .ensures)
+returns-2 c = simp (le-leb _ _ (c .before .if1 .left), c .has-digits .ensures)
 
 pub fraction-exists-spec : {M : Type 1} → statement M
-fraction-exists-spec = tie.close (tie.spec returns power-of-ten-requires returns-2)
+fraction-exists-spec = tie.close (tie.spec returns has-digits-requires returns-2)
