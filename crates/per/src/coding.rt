@@ -19,9 +19,9 @@ use unpacking::ValueRead;
 use unpacking::unpack;
 use values::Admission;
 use values::admit;
+use values::deliver_text;
 use values::in_type;
 use values::value_exists;
-use values::write_text;
 
 // How the row of these years has them.
 fn years_row(years: Years) -> YearRow
@@ -89,7 +89,7 @@ fn compare(t: Type, octets: &[u8], value: Value, room: &mut [u8]) -> Outcome
     if !same(octets, encoding) {
         return Outcome::refused(Refusal::Encoding);
     }
-    write_text(value, bits, room)
+    deliver_text(value, bits, room)
 }
 
 // The answer to octets that give a value: whether it exists, whether it is in the type, and whether the octets are

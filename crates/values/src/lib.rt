@@ -45,4 +45,5 @@ pub use types::TypeRead;
 pub use types::Window;
 pub use types::Years;
 pub use types::same_rows;
+pub use written::deliver_text;
 pub use written::write_text;

@@ -1,7 +1,7 @@
 // The canonical text of a value in lent room.
 ghost use mathlib.Core.Path.{_≡_};
-ghost use Rattle.answers.specs.Outcomes.{outcomeOf, roomOf};
-ghost use Rattle.values.specs.Written.{written};
+ghost use Rattle.answers.specs.Outcomes.{done, outcomeOf, roomOf};
+ghost use Rattle.values.specs.Written.{printed, written};
 use crate::existence::value_exists;
 use answers::Bits;
 use answers::Outcome;
@@ -11,8 +11,18 @@ use printing::TEXT_CAPACITY;
 use printing::text_into;
 use texts::Value;
 
-// Puts the canonical text of a value at the front of the room, and reports the bits of the encoding that it was
-// read from; or refuses where there is no such value or the room is shorter than the text.
+// Puts the text of a value at the front of the room, and reports the bits of the encoding that it was read from; or
+// refuses where the room is shorter than the text. It does not ask whether there is such a value.
+pub fn deliver_text(value: Value, bits: Bits, room: &mut [u8]) -> Outcome
+    ensures { λ r. ⌜ r ≡ outcomeOf (done (printed value) bits) (now (room .entry)) ⌝ }
+    ensures { λ _. ⌜ now (room .exit) ≡ roomOf (done (printed value) bits) (now (room .entry)) ⌝ }
+{
+    let mut buffer = [0u8; TEXT_CAPACITY];
+    let length = text_into(value, &mut buffer);
+    deliver(&buffer[..length], bits, room)
+}
+
+// The same, where there is such a value; else it refuses.
 pub fn write_text(value: Value, bits: Bits, room: &mut [u8]) -> Outcome
     ensures { λ r. ⌜ r ≡ outcomeOf (written bits value) (now (room .entry)) ⌝ }
     ensures { λ _. ⌜ now (room .exit) ≡ roomOf (written bits value) (now (room .entry)) ⌝ }
@@ -20,7 +30,5 @@ pub fn write_text(value: Value, bits: Bits, room: &mut [u8]) -> Outcome
     if !value_exists(value) {
         return Outcome::refused(Refusal::Existence);
     }
-    let mut buffer = [0u8; TEXT_CAPACITY];
-    let length = text_into(value, &mut buffer);
-    deliver(&buffer[..length], bits, room)
+    deliver_text(value, bits, room)
 }

@@ -20,7 +20,6 @@ use Rattle.types.specs.declared.types.«Type».{«Type» as Ty}
 use Rattle.values.specs.Admission.{admitted, judged, judgedRead}
 use Rattle.values.specs.Existence.{existsValue}
 use Rattle.values.specs.Holding.{holdsOf, inType}
-use Rattle.values.specs.Written.{written}
 use Rattle.values.specs.declared.admission.Admission.{Admission}
 use Rattle.values.proofs.Laws.Existing.{held-read}
 use Rattle.values.proofs.Laws.Holding.{holds-both, in-type}
@@ -101,11 +100,6 @@ unfolding readOctets
 per-reads-all row form octets v rest r = ap ofBits (reads-all row form v (unpacked octets) rest r)
 
 -- ---- as the code has it
-
--- The text of a value that exists, as it is written.
-pub written-text : (bits : Bits) (v : Value) → existsValue v ≡ true → written bits v ≡ done (textOf v) bits
-unfolding written
-written-text bits v e = simp e
 
 -- What was read, as `unpacking` answers it.
 abbrev pub ofRead : ValueRead → Option Value

@@ -1,13 +1,13 @@
 -- Values that exist have the digits of their fields, and so the laws of texts hold of them; what a type holds is what its texts give.
 use mathlib.Core.Path.{_∙_, _≡_, ap, refl}
 use mathlib.Core.Bool.{Bool, cond, false, true}
-use mathlib.Core.List.{List}
+use mathlib.Core.List.{List, []}
 use Prim.Native.Nat.{_<_, _^_, _≤_, ℕ}
 use native.Mathlib.Omega.{arith}
 use lib.Dec.{leb}
 use lib.IntN.{natAbs, negsuc, pos, ℤ}
 use lib.ListN.{length, take}
-use borrow.Author.Tests.{leb-true}
+use borrow.Author.Tests.{le-leb, leb-true}
 use Rattle.calendar.proofs.Laws.Bools.{both}
 use Rattle.calendar.proofs.Laws.Dates.{InRange, in-range}
 use Rattle.calendar.specs.Dates.{existsOf}
@@ -39,6 +39,7 @@ use Rattle.values.proofs.Laws.Holding.{date-admitted, held, holds-both,
 use Rattle.values.specs.Admission.{admitted, judged, judgedRead, textNumber}
 use Rattle.values.specs.Existence.{existsTime, existsValue, hoursOf, minutesOf, secondsOf}
 use Rattle.values.specs.Holding.{admits, admitsDate, admitsTime, between, holdsOf, inType}
+use Rattle.values.specs.Written.{printed}
 use Rattle.values.specs.declared.admission.Admission.{Admission}
 
 -- ---- what exists fits
@@ -172,14 +173,26 @@ form-first t l w = go (readOf (formOf t) l) where
   go (TextRead.Value v s) e = absurd (let z : _≡_ {A = ℕ} 0 1 = omega arith in omega arith)
   go TextRead.NotOfForm e = rw w
 
--- ---- the canonical text of what exists, in a buffer that has room for it
+-- ---- the text of a value, in a buffer that has room for it
 
-module _ (v : Value) (e : existsValue v ≡ true) (b : List ℕ) (k : capacity ≤ length b) {n : ℕ} (x : n ≡ lengthIn v b) where
-  prints : printable v b ≡ true
-  prints = can-print v b (exists-digits v e) k
+-- What exists is printed.
+pub printed-text : (v : Value) → existsValue v ≡ true → printed v ≡ textOf v
+unfolding printed
+printed-text v e = simp (le-leb (formDigits (valueForm v)) 9 (exists-digits v e))
 
+module _ (v : Value) (b : List ℕ) (k : capacity ≤ length b) {n : ℕ} (x : n ≡ lengthIn v b) where
   pub text-short : n ≤ 52
-  text-short = omega (arith, text-size v b prints, text-length v (exists-digits v e))
+  unfolding lengthIn printable
+  text-short = go (leb (formDigits (valueForm v)) 9) refl where
+    go : (t : Bool) → leb (formDigits (valueForm v)) 9 ≡ t → n ≤ 52
+    go true e =
+        let d = leb-true (formDigits (valueForm v)) 9 e in
+        omega (arith, text-size v b (can-print v b d k), text-length v d)
+    go false e = rw x (simp e (omega arith))
 
-  pub text-taken : {m : List ℕ} → m ≡ bufferWith v b → take n m ≡ textOf v
-  text-taken y = rw (x, y) (text-front v b prints)
+  pub text-taken : {m : List ℕ} → m ≡ bufferWith v b → take n m ≡ printed v
+  unfolding lengthIn printable printed
+  text-taken {m} y = go (leb (formDigits (valueForm v)) 9) refl where
+    go : (t : Bool) → leb (formDigits (valueForm v)) 9 ≡ t → take n m ≡ cond t (textOf v) []
+    go true e = rw (x, y) (text-front v b (can-print v b (leb-true (formDigits (valueForm v)) 9 e) k))
+    go false e = let z : n ≡ 0 = x ∙ simp e in rw z

@@ -8,7 +8,7 @@ use Rattle.answers.specs.Outcomes.{outcomeOf, roomOf}
 use Rattle.answers.specs.declared.counts.Octets.{Octets}
 use Rattle.kinds.specs.Coding.{compared}
 use Rattle.per.proofs.Laws.Packed.{packed-bits, packed-front, packed-short}
-use Rattle.per.proofs.Laws.Per.{written-text}
+use Rattle.values.proofs.Laws.Existing.{printed-text}
 use borrow.Author.Needs.{needs}
 use Rattle.per.proofs.coding.compare.Statement.{statement}
 use Rattle.per.proofs.coding.compare.Tie as tie
@@ -38,15 +38,15 @@ returns : tie.Need-returns
 unfolding compared outcomeOf roomOf
 returns c = rw (← c .before .before .before .before .before .before .before .before .row-of .ensures, ← packed-front _ _ (c .before .before .before .before .before .before .before .pack .ensures) (ap (λ (o : Octets). o .count) (c .before .before .before .before .octets .ensures)), sym (c .before .before .same .ensures) ∙ not-true _ (c .before .if1 .taken)) (c .refused .ensures, refl)
 
-write-text-requires : tie.Need-write-text-requires
-write-text-requires c κs = search needs
+deliver-text-requires : tie.Need-deliver-text-requires
+deliver-text-requires c κs = search needs
 
 same-length : tie.Need-same-length
 same-length c = search needs
 
 returns-2 : tie.Need-returns-2
 unfolding compared
-returns-2 c = rw (← c .before .before .before .before .before .before .before .before .before .before .before .row-of .ensures, ← packed-bits _ _ (c .before .before .before .before .before .before .before .before .before .before .pack .ensures), ← packed-front _ _ (c .before .before .before .before .before .before .before .before .before .before .pack .ensures) (ap (λ (o : Octets). o .count) (c .before .before .before .before .before .before .before .octets .ensures)), sym (c .before .before .before .before .before .same .ensures) ∙ not-false _ (c .before .before .before .before .if1 .left), ← written-text (c .before .before .before .before .before .before .before .before .before .before .pack .result .bits) _ (c .before .before .before .before .before .before .before .before .before .before .before .before .before .before .pre)) (c .before .before .write-text .ensures)
+returns-2 c = rw (← c .before .before .before .before .before .before .before .before .before .before .before .row-of .ensures, ← packed-bits _ _ (c .before .before .before .before .before .before .before .before .before .before .pack .ensures), ← packed-front _ _ (c .before .before .before .before .before .before .before .before .before .before .pack .ensures) (ap (λ (o : Octets). o .count) (c .before .before .before .before .before .before .before .octets .ensures)), sym (c .before .before .before .before .before .same .ensures) ∙ not-false _ (c .before .before .before .before .if1 .left), ← printed-text _ (c .before .before .before .before .before .before .before .before .before .before .before .before .before .before .pre)) (c .before .before .deliver-text .ensures)
 
 pub compare-spec : {M : Type 1} → statement M
 compare-spec =
@@ -60,6 +60,6 @@ compare-spec =
     same-requires
     refused-requires
     returns
-    write-text-requires
+    deliver-text-requires
     same-length
     returns-2)
