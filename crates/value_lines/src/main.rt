@@ -368,10 +368,20 @@ fn coding_reply(line: &[u8]) {
     }
     let work = line[0];
     if work == b'e' {
-        return encode_line(limits, &line[4..second], &line[second + 1..], &mut room[..length]);
+        return encode_line(
+            limits,
+            &line[4..second],
+            &line[second + 1..],
+            &mut room[..length],
+        );
     }
     if work == b'd' {
-        return decode_line(limits, &line[4..second], &line[second + 1..], &mut room[..length]);
+        return decode_line(
+            limits,
+            &line[4..second],
+            &line[second + 1..],
+            &mut room[..length],
+        );
     }
     no_question()
 }
