@@ -1,0 +1,6 @@
+// The entry points: a text becomes octets and octets become a text, under the type that a text names or lists, in
+// lent room. Each takes any octets at all. The same functions are exported to C (include/anafzir.h).
+pub mod coding;
+
+pub use coding::per_decode;
+pub use coding::per_encode;
