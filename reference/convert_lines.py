@@ -67,6 +67,11 @@ def reply(question):
     return b"0 " + work.write(result) if number == 0 else b"%d" % number
 
 
+def replies(octets):
+    """A reply to each line, each with its newline."""
+    return b"".join(reply(question) + b"\n" for question in split_lines(octets))
+
+
 # the works that are asked for in turn
 THREE_WORKS = (b"per", b"der", b"unper")
 
@@ -600,8 +605,7 @@ def main():
     if sys.argv[1:] == ["lines"]:
         sys.stdout.buffer.write(b"\n".join(all_lines()))
     elif sys.argv[1:] == ["replies"]:
-        for question in split_lines(sys.stdin.buffer.read()):
-            sys.stdout.buffer.write(reply(question) + b"\n")
+        sys.stdout.buffer.write(replies(sys.stdin.buffer.read()))
     else:
         sys.exit("usage: convert_lines.py lines | convert_lines.py replies")
 
