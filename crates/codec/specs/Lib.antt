@@ -1,2 +1,3 @@
 -- What a reader must believe of the entry points.
 pub mod Coding
+pub mod Limits
