@@ -3,7 +3,7 @@
 import sys
 
 from per import decode, encode
-from per_lines import VECTORS
+from coding_lines import VECTORS
 from settings import NO_LIMITS
 
 ROOM = 64

@@ -12,11 +12,11 @@ from pathlib import Path
 
 import der
 import per
-import per_lines
+import coding_lines
 import value_lines
 from lines import split_lines
 from per import fill
-from per_lines import BASIC, BASIC_PROLEPTIC, HEX, L5, LONGEST_LINE, NEGATIVE, NEGATIVE_L5, PROLEPTIC, bits_of
+from coding_lines import BASIC, BASIC_PROLEPTIC, HEX, L5, LONGEST_LINE, NEGATIVE, NEGATIVE_L5, PROLEPTIC, bits_of
 from settings import NO_LIMITS
 from value_lines import DATES, DATE_TAILS, TIMES, WHOLE_TIMES, YEAR_CHOICES, ZONES
 from value_lines import date_time_type, date_type, time_text, time_type
@@ -144,8 +144,8 @@ def without_limits(section):
             yield type_text, text
 
 
-def of_per_lines(section, step):
-    """Each so many-th line of a section of per_lines.py, where it has no limits and the longest room."""
+def of_coding_lines(section, step):
+    """Each so many-th line of a section of coding_lines.py, where it has no limits and the longest room."""
     works = {b"e0*": b"per", b"d0*": b"unper"}
     for each in itertools.islice(section, 0, None, step):
         start, _, rest = each.partition(b";")
@@ -195,7 +195,7 @@ def vectors():
         yield line(b"der", type_text, text)
         if k % 5 == 0:
             yield unper_line(type_text, octets)
-    yield from of_per_lines(per_lines.vectors(), 9)
+    yield from of_coding_lines(coding_lines.vectors(), 9)
 
 
 def boundaries():
@@ -312,7 +312,7 @@ def changed_octets():
         octets = fill(bits_of(type_text, text))
         cut = (octets[:length] for length in range(len(octets)))
         longer = (octets + more for more in (b"\x00", b"\x01", b"\xff", b"\x00" * 9, octets))
-        for changed in itertools.chain([octets], cut, longer, per_lines.turned_bits(octets)):
+        for changed in itertools.chain([octets], cut, longer, coding_lines.turned_bits(octets)):
             yield unper_line(type_text, changed)
 
 
@@ -358,24 +358,24 @@ def date_times_in_octets():
 def fields_in_octets():
     """Fields of PER at and above their ends, free integers of every length, and filling."""
     for section, step in (
-        (per_lines.near_years(), 5), (per_lines.difference_fields(), 3), (per_lines.filling(), 1),
-        (per_lines.free_integers(), 4), (per_lines.free_integer_lengths(), 4), (per_lines.other_choice(), 2),
-        (per_lines.fraction_fields(), 5), (per_lines.fractions_at_hour_24(), 1), (per_lines.date_fields(), 4),
-        (per_lines.time_fields(), 5), (per_lines.causes_in_octets(), 1),
+        (coding_lines.near_years(), 5), (coding_lines.difference_fields(), 3), (coding_lines.filling(), 1),
+        (coding_lines.free_integers(), 4), (coding_lines.free_integer_lengths(), 4), (coding_lines.other_choice(), 2),
+        (coding_lines.fraction_fields(), 5), (coding_lines.fractions_at_hour_24(), 1), (coding_lines.date_fields(), 4),
+        (coding_lines.time_fields(), 5), (coding_lines.causes_in_octets(), 1),
     ):
-        yield from of_per_lines(section, step)
+        yield from of_coding_lines(section, step)
 
 
 def any_values():
     """Values of every form with fields of any number, in every work."""
-    numbers = per_lines.Numbers(3)
+    numbers = coding_lines.Numbers(3)
     for _ in range(600):
-        yield from all_works(*per_lines.any_value(numbers))
+        yield from all_works(*coding_lines.any_value(numbers))
 
 
 def any_octets():
     """Octets of any number under types of every form."""
-    numbers = per_lines.Numbers(4)
+    numbers = coding_lines.Numbers(4)
     types = [type_text for type_text, _, _ in types_to_refuse()]
     for _ in range(700):
         yield unper_line(numbers.one_of(types), bytes(numbers.below(256) for _ in range(numbers.below(10))))

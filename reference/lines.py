@@ -1,25 +1,15 @@
-"""All test lines, and the replies that document 01 settles.
+"""Test lines on values and on codings, and the replies that document 01 settles.
 
-`lines.py lines` writes the lines, `lines.py replies` reads such lines and writes a reply for each. A line with three
-octets before its first semicolon asks for a coding (per_lines.py), any other asks what value_lines.py says. A line ends
-in a newline, and the last one need not.
+`lines.py values lines` writes the lines of value_lines.py, `lines.py values replies` reads such lines and writes a reply
+for each; `codings` in place of `values` stands for coding_lines.py. A line ends in a newline, and the last one need not.
 """
 
 import sys
 
-import per_lines
+import coding_lines
 import value_lines
 
-
-def all_lines():
-    """The lines of both, each line once."""
-    return list(dict.fromkeys(value_lines.all_lines() + per_lines.all_lines()))
-
-
-def reply(question):
-    """The reply to one line, without its newline."""
-    asked = per_lines if len(question.partition(b";")[0]) == 3 else value_lines
-    return asked.reply(question)
+SUBJECTS = {"values": value_lines, "codings": coding_lines}
 
 
 def split_lines(octets):
@@ -30,13 +20,14 @@ def split_lines(octets):
 
 def main():
     """Writes the lines, or the replies to lines from standard input."""
-    if sys.argv[1:] == ["lines"]:
-        sys.stdout.buffer.write(b"\n".join(all_lines()))
-    elif sys.argv[1:] == ["replies"]:
+    subject = SUBJECTS.get(sys.argv[1]) if len(sys.argv) == 3 else None
+    if subject and sys.argv[2] == "lines":
+        sys.stdout.buffer.write(b"\n".join(subject.all_lines()))
+    elif subject and sys.argv[2] == "replies":
         for question in split_lines(sys.stdin.buffer.read()):
-            sys.stdout.buffer.write(reply(question) + b"\n")
+            sys.stdout.buffer.write(subject.reply(question) + b"\n")
     else:
-        sys.exit("usage: lines.py lines | lines.py replies")
+        sys.exit("usage: lines.py values|codings lines|replies")
 
 
 if __name__ == "__main__":

@@ -1,9 +1,7 @@
 // Reads lines from standard input and replies to each. A line `LIMITS;TYPE;TEXT` asks for the number of
 // the text under the type, and after 0 for the canonical text; LIMITS is one octet of a menu. A line
-// `=;TYPE;TYPE` asks whether two types select the same rows, and for their numbers of fraction digits. A line
-// `WLR;TYPE;INPUT` asks for a coding in unaligned PER: W is `e` for the octets of a text or `d` for the text of
-// octets in hex, L the octet of the menu, R the length of the room that is lent; the reply is the number, and after
-// 0 the bit count and the octets or the text. The reply to any other line is `?`.
+// `=;TYPE;TYPE` asks whether two types select the same rows, and for their numbers of fraction digits. The reply
+// to any other line is `?`.
 use calendar::Year;
 use libc::STDIN_FILENO;
 use libc::STDOUT_FILENO;
@@ -16,11 +14,6 @@ use values::Value;
 use values::Window;
 ghost use Prim.Native.Nat.{_≤_};
 ghost use lib.ListN.{length};
-
-// The longest room that a line can ask for, and the most octets that its hex can give.
-const ROOM: usize = 64;
-
-const OCTETS: usize = 512;
 
 // What is held of the line that is being read: so many octets at the front of a buffer, and whether there
 // were more than the buffer has.
@@ -76,26 +69,6 @@ fn limits_of(octet: u8) -> Choice {
         b'9' => years(2000, 2010, false),
         _ => Choice::Unknown,
     }
-}
-
-// The length of a room, or that an octet stands for none.
-enum Room {
-    Length(usize),
-    Unknown,
-}
-
-// `a` to `z` are 0 to 25 octets, `A` to `Z` 26 to 51, and `*` is all.
-fn room_of(octet: u8) -> Room {
-    if octet == b'*' {
-        return Room::Length(ROOM);
-    }
-    if b'a' <= octet && octet <= b'z' {
-        return Room::Length((octet - b'a') as usize);
-    }
-    if b'A' <= octet && octet <= b'Z' {
-        return Room::Length((octet - b'A') as usize + 26);
-    }
-    Room::Unknown
 }
 
 // The digit of a number below ten.
@@ -211,187 +184,9 @@ fn rows_reply(first: &[u8], second: &[u8]) {
     }
 }
 
-// A hex digit, in capitals.
-fn hex_digit(number: u8) -> u8 {
-    if number < 10 {
-        return b'0' + number;
-    }
-    if number < 16 {
-        return b'A' + (number - 10);
-    }
-    b'?'
-}
-
-// The number of a hex digit, or 16 for any other octet.
-fn hex_number(octet: u8) -> u8 {
-    if b'0' <= octet && octet <= b'9' {
-        return octet - b'0';
-    }
-    if b'A' <= octet && octet <= b'F' {
-        return octet - b'A' + 10;
-    }
-    if b'a' <= octet && octet <= b'f' {
-        return octet - b'a' + 10;
-    }
-    16
-}
-
-// How many octets hex gives, or that it is no hex.
-enum Hex {
-    Length(usize),
-    Bad,
-}
-
-// The octets of hex in whole pairs at the front of a buffer.
-fn unhex(text: &[u8], octets: &mut [u8]) -> Hex {
-    let n = text.len() / 2;
-    if text.len() % 2 != 0 {
-        return Hex::Bad;
-    }
-    if octets.len() < n {
-        return Hex::Bad;
-    }
-    let mut i = 0;
-    while i < n {
-        let high = hex_number(text[2 * i]);
-        let low = hex_number(text[2 * i + 1]);
-        if 15 < high {
-            return Hex::Bad;
-        }
-        if 15 < low {
-            return Hex::Bad;
-        }
-        octets[i] = high * 16 + low;
-        i += 1;
-    }
-    Hex::Length(n)
-}
-
-// The front of the reply to a coding: 0 and the bit count, which is below 1,000.
-fn bits_reply(bits: Bits) {
-    let count = bits.count;
-    write(b"0 ");
-    if 99 < count {
-        write(&[digit(count / 100)]);
-    }
-    if 9 < count {
-        write(&[digit(count / 10)]);
-    }
-    write(&[digit(count), b' ']);
-}
-
-// The end of the reply: octets in hex.
-fn hex_reply(octets: &[u8]) {
-    let mut i = 0;
-    while i < octets.len() {
-        let octet = octets[i];
-        write(&[hex_digit(octet / 16), hex_digit(octet % 16)]);
-        i += 1;
-    }
-    write(b"\n")
-}
-
-// The reply to a text that is to be encoded.
-fn encode_reply(t: Type, text: &[u8], room: &mut [u8]) {
-    let outcome = per::encode(t, text, room);
-    if outcome.number != 0 {
-        return number_reply(outcome.number);
-    }
-    let end = outcome.length.count;
-    if room.len() < end {
-        return no_question();
-    }
-    bits_reply(outcome.bits);
-    hex_reply(&room[..end])
-}
-
-// The reply to octets that are to be decoded.
-fn decode_reply(t: Type, octets: &[u8], room: &mut [u8]) {
-    let outcome = per::decode(t, octets, room);
-    if outcome.number != 0 {
-        return number_reply(outcome.number);
-    }
-    let end = outcome.length.count;
-    if room.len() < end {
-        return no_question();
-    }
-    bits_reply(outcome.bits);
-    write(&room[..end]);
-    write(b"\n")
-}
-
-// The reply to a text under a type's text.
-fn encode_line(limits: Limits, settings: &[u8], text: &[u8], room: &mut [u8]) {
-    let read = values::read_type(settings, limits);
-    match read {
-        TypeRead::Type(t) => encode_reply(t, text, room),
-        TypeRead::Unreadable => number_reply(1),
-        TypeRead::NoRow => number_reply(2),
-    }
-}
-
-// The reply to octets in hex under a type's text.
-fn decode_line(limits: Limits, settings: &[u8], hex: &[u8], room: &mut [u8]) {
-    let mut octets = [0u8; OCTETS];
-    let Hex::Length(n) = unhex(hex, &mut octets) else {
-        return no_question();
-    };
-    if OCTETS < n {
-        return no_question();
-    }
-    let read = values::read_type(settings, limits);
-    match read {
-        TypeRead::Type(t) => decode_reply(t, &octets[..n], room),
-        TypeRead::Unreadable => number_reply(1),
-        TypeRead::NoRow => number_reply(2),
-    }
-}
-
-// The reply to a line that asks for a coding.
-fn coding_reply(line: &[u8]) {
-    let second = semicolon(line, 4);
-    if line.len() <= second {
-        return no_question();
-    }
-    if second < 4 {
-        return no_question();
-    }
-    let Choice::Limits(limits) = limits_of(line[1]) else {
-        return no_question();
-    };
-    let Room::Length(length) = room_of(line[2]) else {
-        return no_question();
-    };
-    let mut room = [0u8; ROOM];
-    if ROOM < length {
-        return no_question();
-    }
-    let work = line[0];
-    if work == b'e' {
-        return encode_line(
-            limits,
-            &line[4..second],
-            &line[second + 1..],
-            &mut room[..length],
-        );
-    }
-    if work == b'd' {
-        return decode_line(
-            limits,
-            &line[4..second],
-            &line[second + 1..],
-            &mut room[..length],
-        );
-    }
-    no_question()
-}
-
 // The reply to a line.
 fn reply(line: &[u8]) {
     let first = semicolon(line, 0);
-    if first == 3 {
-        return coding_reply(line);
-    }
     if first != 1 {
         return no_question();
     }

@@ -1,9 +1,9 @@
-"""Test lines on unaligned PER, and the replies that document 01 settles.
+"""Test lines on unaligned PER and DER, and the replies that document 01 settles.
 
 `WLR;TYPE;INPUT` asks for the number of "The seven numbers" and, after 0, the bit count and the result. W is `e` to
-encode INPUT, a text, or `d` to decode it, octets as whole pairs of hex digits; L is one octet of value_lines.py's menu
-of limits; R is the room: `a` to `z` are 0 to 25 octets, `A` to `Z` are 26 to 51, `*` is 64. TYPE ends at the second
-semicolon, and INPUT is all that follows. Any other line has the reply `?`.
+encode INPUT, a text, in PER, `t` to encode it in DER, or `d` to decode it from PER, octets as whole pairs of hex digits;
+L is one octet of value_lines.py's menu of limits; R is the room: `a` to `z` are 0 to 25 octets, `A` to `Z` are 26 to 51,
+`*` is 64. TYPE ends at the second semicolon, and INPUT is all that follows. Any other line has the reply `?`.
 """
 
 import itertools
@@ -12,10 +12,12 @@ import string
 import sys
 from pathlib import Path
 
+import der
+import per
 import value_lines
-from per import DAY_TIME_FIELDS, decode, encode, fill, free_integer_bits, free_integer_length, number_bits, octet_bits
+from per import DAY_TIME_FIELDS, fill, free_integer_bits, free_integer_length, number_bits, octet_bits
 from per import read_octets, value_bits
-from settings import is_refused, read_type
+from settings import NO_LIMITS, is_refused, read_type
 from texts import read_text
 from value_lines import DATES, DATE_TAILS, MENU, TIMES, WINDOWS, YEAR_CHOICES, ZONES
 from value_lines import date_time_type, date_type, time_text, time_type
@@ -380,6 +382,14 @@ def rooms():
         yield decode_line(time_type(b"HMSF1", b"LD"), fill(bits_of(time_type(b"HMSF1", b"LD"), b"15:27:46.5+01")), room=room)
 
 
+def rooms_in_der():
+    """Rooms of no octet, too short by one, exact and longer by one, in DER."""
+    for type_text, text in sample():
+        _, octets, _ = der.encode(type_text, NO_LIMITS, text, 64)
+        for length in sorted({0, 1, len(octets) - 1, len(octets), len(octets) + 1}):
+            yield b"t" + encode_line(type_text, text, room=ROOM_OF[length])[1:]
+
+
 def causes_in_octets():
     """Two and more causes in one decoding: "When several hold, the lowest number is given"."""
     type_text = date_time_type(b"YMD", BASIC, b"HMSF2", b"LD")
@@ -642,20 +652,28 @@ def last_line():
 SECTIONS = (
     checked_values, year_ends, near_years, fractions, whole_times, differences, difference_fields, date_times, windows,
     no_hour_24, boundaries, changed_octets, filling, free_integers, free_integer_lengths, other_choice, fraction_fields,
-    fractions_at_hour_24, date_fields, time_fields, rooms, causes_in_octets, causes_in_years, causes_in_texts, cross_table,
+    fractions_at_hour_24, date_fields, time_fields, rooms, rooms_in_der, causes_in_octets, causes_in_years, causes_in_texts, cross_table,
     refused_types, restrictions_without_place, any_values, any_octets, long_inputs, small_hex, vectors, other_lines, last_line,
 )
+
+
+def in_der(lines):
+    """The lines that encode in PER, asked in DER."""
+    for each in lines:
+        if each[:1] == b"e":
+            yield b"t" + each[1:]
 
 
 def all_lines():
     """The lines of all sections, each line once."""
     lines = dict.fromkeys(itertools.chain.from_iterable(section() for section in SECTIONS))
+    lines = dict.fromkeys(itertools.chain(in_der(lines), lines))
     if any(b"\n" in each or len(each) > LONGEST_LINE for each in lines):
         sys.exit("a newline inside a line, or a line that is too long")
     return list(lines)
 
 
-def reply_on_text(type_text, limits, text, room):
+def reply_on_text(encode, type_text, limits, text, room):
     """The number of an encoding and, after 0, the bit count and the octets in hex."""
     number, octets, bits = encode(type_text, limits, text, room)
     return b"0 %d %s" % (bits, octets.hex().upper().encode()) if number == 0 else b"%d" % number
@@ -663,8 +681,12 @@ def reply_on_text(type_text, limits, text, room):
 
 def reply_on_octets(type_text, limits, octets, room):
     """The number of a decoding and, after 0, the bit count and the text."""
-    number, text, bits = decode(type_text, limits, octets, room)
+    number, text, bits = per.decode(type_text, limits, octets, room)
     return b"0 %d %s" % (bits, text) if number == 0 else b"%d" % number
+
+
+# what encodes a text
+ENCODERS = {b"e": per.encode, b"t": der.encode}
 
 
 def reply(question):
@@ -675,8 +697,8 @@ def reply(question):
     work, limits, room = (parts[0][place:place + 1] for place in range(3))
     if limits not in MENU or room not in ROOMS:
         return b"?"
-    if work == b"e":
-        return reply_on_text(parts[1], MENU[limits], parts[2], ROOMS[room])
+    if work in ENCODERS:
+        return reply_on_text(ENCODERS[work], parts[1], MENU[limits], parts[2], ROOMS[room])
     if work == b"d" and HEX.fullmatch(parts[2]):
         return reply_on_octets(parts[1], MENU[limits], bytes.fromhex(parts[2].decode("ascii")), ROOMS[room])
     return b"?"
