@@ -1,6 +1,6 @@
 """Compares each row of the proved tables with the independent reference: the calendar's years and dates, the
-types and their rows, the texts under types, and unaligned PER. Prints the first row that differs and exits 1, or prints
-nothing."""
+types and their rows, the texts under types, unaligned PER and DER. Prints the first row that differs and exits 1, or
+prints nothing."""
 
 import re
 import sys
@@ -8,6 +8,7 @@ from pathlib import Path
 
 ROOT = Path(__file__).resolve().parent.parent
 sys.path.insert(0, str(ROOT / "reference"))
+import der  # noqa: E402
 import gregorian  # noqa: E402
 import per  # noqa: E402
 import settings  # noqa: E402
@@ -46,6 +47,9 @@ PER_LIMITS = {
     "noHour24": settings.Limits(None, True),
 }
 ROOM = 64
+
+DER = ROOT / "crates/der/proofs/Laws/Checked.antt"
+ELEMENT = re.compile(r'^ +value "([^"]*)" "([^"]*)" (\d) "([^"]*)" ∷', re.M)
 
 
 def rows(table, *patterns):
@@ -142,9 +146,18 @@ def check_per():
         expect(PER, f"{type_text} {octets}", int(number), found[0])
 
 
+def check_der():
+    """The number and the octets of each value, with no bits."""
+    (found,) = rows(DER, ELEMENT)
+    for type_text, text, number, octets in found:
+        said = (int(number), bytes.fromhex(octets), 0)
+        expect(DER, f"{type_text} {text}", said, der.encode(type_text.encode(), settings.NO_LIMITS, text.encode(), ROOM))
+
+
 if __name__ == "__main__":
     check_calendar()
     check_types()
     check_texts()
     check_times()
     check_per()
+    check_der()

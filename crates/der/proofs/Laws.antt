@@ -1,3 +1,4 @@
 -- The laws of DER.
 pub mod Contents
 pub mod Der
+pub mod Checked

@@ -55,7 +55,7 @@ kept-digits : (name : Name) (w n : ℕ) (r : List ℕ) → without (omits name) 
 unfolding without putDigits
 kept-digits name zero n r = refl
 kept-digits name (suc w) n r =
-    rw (append-assoc, append-assoc, kept-digits name w (n / 10) ((48 + n % 10) ∷ r), digit-kept name (48 + n % 10) (omega arith) (omega arith))
+    simp (append-assoc, kept-digits name w (n / 10) ((48 + n % 10) ∷ r), digit-kept name (48 + n % 10) (omega arith) (omega arith))
 
 all-digits : (w n : ℕ) (r : List ℕ) → allDigits (putDigits w n ++ r) ≡ allDigits r
 unfolding allDigits putDigits
@@ -198,4 +198,4 @@ tag-size Name.DateTime = omega arith
 -- How long an element is.
 pub element-size : (name : Name) (l : List ℕ) → (length (element name l) ≡ length (tagOf name) + 1 + length l) × (1 ≤ length (tagOf name)) × (length (tagOf name) ≤ 2)
 unfolding element
-element-size name l = (length-append (tagOf name) (length l ∷ l) ∙ omega arith, tag-size name .0, tag-size name .1)
+element-size name l = (simp length-append (omega arith), tag-size name .0, tag-size name .1)
