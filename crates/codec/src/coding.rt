@@ -25,8 +25,8 @@ pub fn per_decode(settings: &[u8], limits: Limits, octets: &[u8], room: &mut [u8
     ensures { λ r. ⌜ r ≡ outcomeOf (perDecode (now (settings .entry)) limits (now (octets .entry))) (now (room .entry)) ⌝ }
     ensures { λ _. ⌜ now (room .exit) ≡ roomOf (perDecode (now (settings .entry)) limits (now (octets .entry))) (now (room .entry)) ⌝ }
 {
-    let read = read_type(settings, limits);
-    match read {
+    let reader = read_type(settings, limits);
+    match reader {
         TypeRead::Type(t) => per::decode(t, octets, room),
         TypeRead::Unreadable => Outcome::refused(Refusal::Settings),
         TypeRead::NoRow => Outcome::refused(Refusal::Rows),

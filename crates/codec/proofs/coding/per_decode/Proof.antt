@@ -9,8 +9,8 @@ use Rattle.codec.proofs.coding.per_decode.Tie as tie
 read-type-requires : tie.Need-read-type-requires
 read-type-requires c κs = tt
 
-enum-known-read : tie.Need-enum-known-read
-enum-known-read c = search needs
+enum-known-reader : tie.Need-enum-known-reader
+enum-known-reader c = search needs
 
 decode-requires : tie.Need-decode-requires
 decode-requires c κs = tt
@@ -32,7 +32,7 @@ same-length c = search needs
 
 returns : tie.Need-returns
 unfolding perDecode
-returns c = rw (sym (c .before .before .before .before .before .before .before .read-type .ensures) ∙ c .before .before .before .before .before .read .given .1) (c .before .before .decode .ensures)
+returns c = rw (sym (c .before .before .before .before .before .before .before .read-type .ensures) ∙ c .before .before .before .before .before .reader .given .1) (c .before .before .decode .ensures)
 
 returns-2 : tie.Need-returns-2
 unfolding perDecode outcomeOf roomOf
@@ -47,7 +47,7 @@ per-decode-spec =
     tie.close
     (tie.spec
     read-type-requires
-    enum-known-read
+    enum-known-reader
     decode-requires
     enum-told
     refused-requires
