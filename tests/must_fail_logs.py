@@ -1,6 +1,7 @@
 """Reads the log of each must-fail edit that `rt ci` tried. An edit that only made a proof file unfit for the
-code shows nothing: its first error is one of the messages below, and it is printed, with exit 1. Otherwise
-nothing is printed. Whether any other first error is a fact that fails is for a reader to see."""
+code shows nothing: its first error is one of the messages below, and it is printed, with exit 1. A file of several
+wrong programs says of each at which proof it is refused, and each of these proofs must have an error that is none of
+those messages. Otherwise nothing is printed. Whether any other error is a fact that fails is for a reader to see."""
 
 import re
 import sys
@@ -10,26 +11,52 @@ ROOT = Path(__file__).resolve().parent.parent
 UNFIT = re.compile(
     r"that can be named from here|is not in scope|but this has type `tie\.Need-|was not admitted|has no field|does not parse"
 )
+ERROR = re.compile(r"(\S+\.antt):\d+:\d+: error")
+PART = re.compile(r"^# (\w+): refused at (\S+)$", re.M)
 
 
-def first_error(log):
-    """The first error of a log, with the lines that go on with it."""
-    lines = log.read_text("utf-8", "replace").split("\n")
-    starts = [i for i, line in enumerate(lines) if re.search(r"\.antt:\d+:\d+: error", line)]
-    if not starts:
-        return None
-    end = next((i for i in range(starts[0] + 1, len(lines)) if not lines[i].startswith(" ")), len(lines))
-    return "\n".join(lines[starts[0]:end])
+def errors(log):
+    """The errors of a log in their order, each with its file and the lines that go on with it."""
+    lines = log.split("\n")
+    for i, line in enumerate(lines):
+        found = ERROR.match(line)
+        if found:
+            end = next((k for k in range(i + 1, len(lines)) if not lines[k].startswith(" ")), len(lines))
+            yield found.group(1), "\n".join(lines[i:end])
+
+
+def faults(edit, log):
+    """What is wrong with an edit, given its text and its log."""
+    found = list(errors(log))
+    parts = PART.findall(edit)
+    if not parts and (not found or UNFIT.search(found[0][1])):
+        yield f"only unfits a proof file: {(found[0][1] if found else 'no error')[:300]}"
+    if parts and len(parts) != len({path for _, path in parts}):
+        yield "two wrong programs are refused at one proof"
+    for name, path in parts:
+        if not any(file.endswith("/" + path) and not UNFIT.search(error) for file, error in found):
+            yield f"{name} is not refused at {path}"
+
+
+def self_test():
+    """Each fault is found, and a good edit has none."""
+    fact = "/x/proofs/a/Proof.antt:3:1: error: `returns`: the goal fails\n  at 0\n"
+    unfit = "/x/proofs/b/Proof.antt:3:1: error: `f-spec`: `close` was not admitted\nfn f: not proved\n"
+    one, two = "# a: refused at proofs/a/Proof.antt\n", "# b: refused at proofs/b/Proof.antt\n"
+    cases = (("", fact, 0), ("", unfit, 1), ("", "", 1), (one, unfit + fact, 0), (one + two, fact + unfit, 1), (one + one, fact, 1))
+    for edit, log, count in cases:
+        if len(list(faults(edit, log))) != count:
+            sys.exit(f"must_fail_logs.py does not find what it should: {edit!r} {log!r}")
 
 
 def main():
+    self_test()
     edits = sorted(ROOT.glob("crates/*/must-fail/*.edit"))
     bad = []
     for edit in edits:
         log = ROOT / "target/must-fail" / edit.parent.parent.name / edit.stem / ".log"
-        error = first_error(log) if log.exists() else None
-        if error is None or UNFIT.search(error):
-            bad.append(f"{edit.relative_to(ROOT)}: only unfits a proof file: {(error or 'no error')[:300]}")
+        text = log.read_text("utf-8", "replace") if log.exists() else ""
+        bad += [f"{edit.relative_to(ROOT)}: {fault}" for fault in faults(edit.read_text("utf-8"), text)]
     print("\n".join(bad), end="\n" if bad else "")
     sys.exit(1 if bad or not edits else 0)
 
