@@ -2,9 +2,10 @@
 
 from collections import namedtuple
 
+from answers import judge_value, refusal, success
 from settings import is_refused, read_type
 from texts import Date, Difference, Fraction, TIME_FIELDS, Time, Value
-from texts import canonical_text, holds, read_text, value_exists
+from texts import canonical_text, read_text
 
 # a field of so many bits, with the lowest and the highest number of its range; the lowest is written as 0
 Field = namedtuple("Field", "lowest highest width")
@@ -222,27 +223,6 @@ def read_octets(t, octets):
         return None
 
 
-def refusal(number):
-    """"A refusal: number, length 0, bit count 0"."""
-    return number, b"", 0
-
-
-def success(result, bits, room_length):
-    """"Success is 0", with the result and the bit count; 7 when "the lent room is shorter than the result"."""
-    if room_length < len(result):
-        return refusal(7)
-    return 0, result, len(bits)
-
-
-def judge_value(t, value):
-    """3 where nothing was read; 4 for "no such date, time or difference"; 5 for "exists, but not in the type"; or 0."""
-    if value is None:
-        return 3
-    if not value_exists(value):
-        return 4
-    return 0 if holds(t, value) else 5
-
-
 def encode(type_text, limits, text, room_length):
     """The number, the octets and the bit count, "the plain sum of these widths, before the filling"."""
     t = read_type(type_text, limits)
@@ -253,7 +233,7 @@ def encode(type_text, limits, text, room_length):
     if number != 0:
         return refusal(number)
     bits = value_bits(t, value)
-    return success(fill(bits), bits, room_length)
+    return success(fill(bits), len(bits), room_length)
 
 
 def decode(type_text, limits, octets, room_length):
@@ -269,4 +249,4 @@ def decode(type_text, limits, octets, room_length):
     bits = value_bits(t, value)
     if fill(bits) != octets:
         return refusal(6)
-    return success(canonical_text(value), bits, room_length)
+    return success(canonical_text(value), len(bits), room_length)

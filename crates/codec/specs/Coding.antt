@@ -8,6 +8,7 @@ use Rattle.types.specs.declared.types.TypeRead.{TypeRead}
 use Rattle.types.specs.declared.types.«Type».{«Type» as Ty}
 use Rattle.settings.specs.TypeTexts.{typeOf}
 use Rattle.per.specs.Per.{perEncoded, perDecoded}
+use Rattle.der.specs.Der.{derEncoded}
 
 -- 1: "settings unreadable, ..; a restriction where it has no place"; 2: "two lists that don't make one row"; else what is answered under the type.
 abbrev pub underType : TypeRead → (Ty → Answer) → Answer
@@ -22,3 +23,7 @@ perEncode settings limits text = underType (typeOf limits settings) λ t. perEnc
 -- .. and octets of it.
 unfoldable pub perDecode : List ℕ → Limits → List ℕ → Answer
 perDecode settings limits octets = underType (typeOf limits settings) λ t. perDecoded t octets
+
+-- A text in DER.
+unfoldable pub derEncode : List ℕ → Limits → List ℕ → Answer
+derEncode settings limits text = underType (typeOf limits settings) λ t. derEncoded t text

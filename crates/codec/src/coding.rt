@@ -1,6 +1,6 @@
 ghost use mathlib.Core.Path.{_≡_};
 ghost use Rattle.answers.specs.Outcomes.{outcomeOf, roomOf};
-ghost use Rattle.codec.specs.Coding.{perEncode, perDecode};
+ghost use Rattle.codec.specs.Coding.{perEncode, perDecode, derEncode};
 use answers::Outcome;
 use answers::Refusal;
 use settings::read_type;
@@ -28,6 +28,19 @@ pub fn per_decode(settings: &[u8], limits: Limits, octets: &[u8], room: &mut [u8
     let read = read_type(settings, limits);
     match read {
         TypeRead::Type(t) => per::decode(t, octets, room),
+        TypeRead::Unreadable => Outcome::refused(Refusal::Settings),
+        TypeRead::NoRow => Outcome::refused(Refusal::Rows),
+    }
+}
+
+// Puts the octets of a text in DER at the front of the room, or refuses.
+pub fn der_encode(settings: &[u8], limits: Limits, text: &[u8], room: &mut [u8]) -> Outcome
+    ensures { λ r. ⌜ r ≡ outcomeOf (derEncode (now (settings .entry)) limits (now (text .entry))) (now (room .entry)) ⌝ }
+    ensures { λ _. ⌜ now (room .exit) ≡ roomOf (derEncode (now (settings .entry)) limits (now (text .entry))) (now (room .entry)) ⌝ }
+{
+    let read = read_type(settings, limits);
+    match read {
+        TypeRead::Type(t) => der::encode(t, text, room),
         TypeRead::Unreadable => Outcome::refused(Refusal::Settings),
         TypeRead::NoRow => Outcome::refused(Refusal::Rows),
     }

@@ -2,5 +2,6 @@
 // lent room. Each takes any octets at all. The same functions are exported to C (include/anafzir.h).
 pub mod coding;
 
+pub use coding::der_encode;
 pub use coding::per_decode;
 pub use coding::per_encode;

@@ -4,14 +4,9 @@ use mathlib.Core.Bool.{Bool}
 use mathlib.Core.List.{List}
 use Rattle.answers.specs.Outcomes.{Answer}
 use Rattle.answers.specs.declared.counts.Bits.{Bits}
-use Rattle.texts.specs.Texts.{readOf, textOf}
 use Rattle.texts.specs.declared.forms.Form.{Form}
-use Rattle.texts.specs.declared.texts.TextRead.{TextRead}
 use Rattle.texts.specs.declared.values.Value.{Value}
-use Rattle.types.specs.Types.{formOf, wellFormed}
 use Rattle.types.specs.declared.types.«Type».{«Type» as Ty}
-use Rattle.values.specs.Existence.{existsValue}
-use Rattle.values.specs.Holding.{inType}
 use Rattle.fields.specs.Bits.{octetsOf}
 use Rattle.fields.specs.Fields.{layout, bitCount}
 use Rattle.fields.specs.Readings.{Found, found, nothing}
@@ -20,13 +15,9 @@ use Rattle.rows.specs.Readings.{readOctets}
 use Rattle.rows.specs.declared.YearRow.{YearRow}
 use Rattle.kinds.specs.Kinds.{Kind, Option, some, none}
 use Rattle.kinds.specs.Coding.{encoded, decoded}
+use Rattle.encodings.specs.Encodings.{encodedBy}
 
--- What a text gives, however it is spelled, ..
-abbrev pub ofText : TextRead → Option Value
-ofText (TextRead.Value v s) = some v
-ofText TextRead.NotOfForm = none
-
--- .. and what bits give, whatever is left of them.
+-- What bits give, whatever is left of them.
 abbrev pub ofBits : Found Bool Value → Option Value
 ofBits (found v rest) = some v
 ofBits nothing = none
@@ -40,18 +31,7 @@ countOf row v = record { count = bitCount (fieldsOf row v) }
 
 -- Dates and times in unaligned PER.
 abbrev pub per : Kind Ty Form YearRow Value
-per = record {
-  wellFormed = wellFormed;
-  form = formOf;
-  row = rowOf;
-  exists = existsValue;
-  inType = inType;
-  textOf = textOf;
-  readText = λ form text. ofText (readOf form text);
-  encoding = encodingOf;
-  count = countOf;
-  readOctets = λ row form octets. ofBits (readOctets row form octets);
-}
+per = encodedBy rowOf encodingOf countOf λ row form octets. ofBits (readOctets row form octets)
 
 -- What encoding a text answers, ..
 abbrev pub perEncoded : Ty → List ℕ → Answer

@@ -23,6 +23,10 @@ length-encoding : (row : YearRow) (v : Value) → length (encodingOf row v) ≡ 
 unfolding encodingOf countOf
 length-encoding row v = length-octets (layout (fieldsOf row v)) ∙ ap (λ (n : ℕ). octetsFor (record { count = n }) .count) (length-layout (fieldsOf row v))
 
+pub encoding-short : (row : YearRow) (v : Value) → length (encodingOf row v) ≤ 16
+unfolding octetsFor countOf
+encoding-short row v = let l = longest row v in rw (length-encoding row v) (omega arith)
+
 module _ (row : YearRow) (v : Value) {packed : Packed} (e : packed ≡ packedOf row v) where
   -- the bit count is the encoding's, ..
   pub packed-bits : packed .bits ≡ countOf row v

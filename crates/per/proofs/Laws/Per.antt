@@ -2,7 +2,8 @@
 use mathlib.Core.Path.{_≡_, refl, ap, sym, _∙_}
 use mathlib.Core.Bool.{Bool, true, false, cond}
 use mathlib.Core.List.{List}
-use Prim.Native.Nat.{ℕ}
+use Prim.Native.Nat.{ℕ, _≤_}
+use lib.ListN.{length}
 use native.Mathlib.Omega.{arith}
 use Rattle.answers.specs.Outcomes.{Answer, done, refused, outcomeOf}
 use Rattle.answers.specs.declared.counts.Bits.{Bits}
@@ -37,29 +38,28 @@ use Rattle.kinds.specs.Kinds.{Option, some, none}
 use Rattle.kinds.specs.Coding.{judgedAs, judgedText, encoded}
 use Rattle.kinds.specs.Demands.{Holds, Lawful, Demand2, Accepted, Demand3, Judged}
 use Rattle.kinds.proofs.Laws.Coding as Coding
-use Rattle.per.specs.Per.{ofText, ofBits, encodingOf, countOf, per, perEncoded, perDecoded}
+use Rattle.encodings.specs.Encodings.{ofText}
+use Rattle.encodings.proofs.Laws.Encodings.{answerOf, decoded-short, encoded-admitted, held-by, text-read}
+use Rattle.per.specs.Per.{ofBits, encodingOf, countOf, per, perEncoded, perDecoded}
 use Rattle.per.proofs.Laws.Carried.{held-carried}
+use Rattle.per.proofs.Laws.Packed.{encoding-short}
 
-held-by : (t : Ty) (v : Value) → Holds per t v → holdsOf t v ≡ true
-held-by t v h = holds-both t v (h .real) (h .inside)
-
--- any text of a value that a type holds is read as it
-pub text-read : (t : Ty) (v : Value) → Holds per t v → (s : Spelling) → ofText (readOf (formOf t) (render s v)) ≡ some v
-text-read t v h s = ap ofText (held-read t v (held-by t v h) s)
+abbrev bitsGiven : YearRow → Form → List ℕ → Option Value
+bitsGiven row form octets = ofBits (readOctets row form octets)
 
 octets-read : (t : Ty) (v : Value) → Holds per t v → ofBits (readOctets (rowOf t) (formOf t) (encodingOf (rowOf t) v)) ≡ some v
 unfolding encodingOf
-octets-read t v h = rw (← in-type t v (h .inside) .0) (ap ofBits (read-octets (rowOf t) v (held-carried t v (held-by t v h))))
+octets-read t v h = rw (← in-type t v (h .inside) .0) (ap ofBits (read-octets (rowOf t) v (held-carried t v (held-by rowOf encodingOf countOf bitsGiven t v h))))
 
 pub per-lawful : Lawful per
-per-lawful = record { text-own = λ t v h. text-read t v h canonical; octets-own = octets-read }
+per-lawful = record { text-own = λ t v h. text-read rowOf encodingOf countOf bitsGiven t v h canonical; octets-own = octets-read }
 
 -- ---- demand 2
 
 -- Any text of a value that a type holds becomes exactly the standard's octets, with their bit count, and these come back as the
 -- canonical text.
 pub per-demand-2 : (t : Ty) (v : Value) → Holds per t v → (s : Spelling) → Demand2 per t (render s v) v
-per-demand-2 t v h s = Coding.demand-2 per per-lawful t (render s v) v h (text-read t v h s)
+per-demand-2 t v h s = Coding.demand-2 per per-lawful t (render s v) v h (text-read rowOf encodingOf countOf bitsGiven t v h s)
 
 -- Whatever is accepted is the encoding of the value returned.
 pub per-accepted : (t : Ty) (octets text : List ℕ) {bits : Bits} → perDecoded t octets ≡ done text bits → Accepted per t octets text
@@ -110,23 +110,17 @@ pub bits-read : (g : Found Bool Value) → ofBits g ≡ ofRead (valueIn g)
 bits-read (found v rest) = refl
 bits-read nothing = refl
 
--- What an admission answers: the encoding of the value, or the refusal.
-abbrev pub answerOf : YearRow → Admission → Answer
-answerOf row (Admission.Value v) = done (encodingOf row v) (countOf row v)
-answerOf row (Admission.Refused why) = refused why
+-- The encoder's answer is that of an admission.
+pub per-admitted : (t : Ty) (text : List ℕ) → perEncoded t text ≡ answerOf encodingOf countOf (rowOf t) (admitted t text)
+per-admitted = encoded-admitted rowOf encodingOf countOf bitsGiven
 
-pub encoded-admitted : (t : Ty) (text : List ℕ) → perEncoded t text ≡ answerOf (rowOf t) (admitted t text)
-unfolding encoded judgedText judgedAs admitted judged
-encoded-admitted t text = formed (wellFormed t) (readOf (formOf t) text)
-  where
-    formed : (b : Bool) (r : TextRead) → cond b (judgedText per t (ofText r)) (refused Refusal.Settings)
-        ≡ answerOf (rowOf t) (cond b (judgedRead t r) (Admission.Refused Refusal.Settings))
-    formed false r = refl
-    formed true TextRead.NotOfForm = refl
-    formed true (TextRead.Value v s) = real (existsValue v) (inType t v)
-      where
-        real : (a b : Bool) → cond a (cond b (done (encodingOf (rowOf t) v) (countOf (rowOf t) v)) (refused Refusal.Membership)) (refused Refusal.Existence)
-            ≡ answerOf (rowOf t) (cond a (cond b (Admission.Value v) (Admission.Refused Refusal.Membership)) (Admission.Refused Refusal.Existence))
-        real false b = refl
-        real true false = refl
-        real true true = refl
+-- ---- how long results are
+
+pub per-encoded-short : (t : Ty) (text result : List ℕ) (bits : Bits) → perEncoded t text ≡ done result bits → length result ≤ 16
+per-encoded-short t text result bits e =
+    let x = Coding.encoded-only per t text result bits e in
+    let q : encodingOf (rowOf t) (x .0) ≡ result = let r = x .3 in cc in
+    rw (← q) (encoding-short (rowOf t) (x .0))
+
+pub per-decoded-short : (t : Ty) (octets result : List ℕ) (bits : Bits) → perDecoded t octets ≡ done result bits → length result ≤ 52
+per-decoded-short = decoded-short rowOf encodingOf countOf bitsGiven

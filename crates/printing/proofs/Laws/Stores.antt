@@ -46,6 +46,14 @@ put-then h k =
       end = k .end ∙ rw (h .end, length-append) (omega arith);
     }
 
+-- what is left of two texts when the first one is stored
+pub put-rest : {l m n : List ℕ} {at p r : ℕ} {t u : List ℕ} → Put l m at t p → Put l n at (t ++ u) r → Put m n p u r
+put-rest h k =
+    record {
+      text = k .text ∙ rw (sets-append, h .text, h .end);
+      end = k .end ∙ rw (h .end, length-append) (omega arith);
+    }
+
 -- a text stored at the front
 pub sets-front : (l t : List ℕ) → length t ≤ length l → sets l 0 t ≡ t ++ drop (length t) l
 sets-front l t h = let z : 0 + length t ≡ length t = omega arith in rw (sets-eq t l 0 (omega arith), z)

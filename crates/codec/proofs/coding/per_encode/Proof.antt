@@ -7,25 +7,25 @@ use Rattle.codec.proofs.coding.per_encode.Statement.{statement}
 use Rattle.codec.proofs.coding.per_encode.Tie as tie
 
 read-type-requires : tie.Need-read-type-requires
-read-type-requires c κs = search needs
+read-type-requires c κs = tt
 
 enum-known-read : tie.Need-enum-known-read
 enum-known-read c = search needs
 
 encode-requires : tie.Need-encode-requires
-encode-requires c κs = search needs
+encode-requires c κs = tt
 
 enum-told : tie.Need-enum-told
 enum-told c = search needs
 
 refused-requires : tie.Need-refused-requires
-refused-requires c κs = search needs
+refused-requires c κs = tt
 
 enum-told-2 : tie.Need-enum-told-2
 enum-told-2 c = search needs
 
 refused-requires-2 : tie.Need-refused-requires-2
-refused-requires-2 c κs = search needs
+refused-requires-2 c κs = tt
 
 same-length : tie.Need-same-length
 same-length c = search needs

@@ -2,7 +2,7 @@
 use mathlib.Core.Path.{_∙_, refl, sym}
 use denote.Ref.{now}
 use Rattle.answers.specs.Outcomes.{outcomeOf, roomOf}
-use Rattle.per.proofs.Laws.Per.{encoded-admitted}
+use Rattle.per.proofs.Laws.Per.{per-admitted}
 use borrow.Author.Needs.{needs}
 use Rattle.per.proofs.coding.encode.Statement.{statement}
 use Rattle.per.proofs.coding.encode.Tie as tie
@@ -29,11 +29,11 @@ same-length : tie.Need-same-length
 same-length c = search needs
 
 returns : tie.Need-returns
-returns c = rw (encoded-admitted (c .before .before .before .before .before .before .before .before .before .before .before .args .t) (now (c .before .before .before .before .before .before .before .before .before .before .before .args .text)), sym (c .before .before .before .before .before .before .before .before .admit .ensures) ∙ c .before .before .before .before .before .before .admission .given .1, ← c .before .before .before .before .row-of .ensures) (c .before .before .write-octets .ensures)
+returns c = rw (per-admitted (c .before .before .before .before .before .before .before .before .before .before .before .args .t) (now (c .before .before .before .before .before .before .before .before .before .before .before .args .text)), sym (c .before .before .before .before .before .before .before .before .admit .ensures) ∙ c .before .before .before .before .before .before .admission .given .1, ← c .before .before .before .before .row-of .ensures) (c .before .before .write-octets .ensures)
 
 returns-2 : tie.Need-returns-2
 unfolding outcomeOf roomOf
-returns-2 c = rw (encoded-admitted (c .before .before .before .before .before .before .before .args .t) (now (c .before .before .before .before .before .before .before .args .text)), sym (c .before .before .before .before .admit .ensures) ∙ c .before .before .admission2 .given .1) (c .refused .ensures, refl)
+returns-2 c = rw (per-admitted (c .before .before .before .before .before .before .before .args .t) (now (c .before .before .before .before .before .before .before .args .text)), sym (c .before .before .before .before .admit .ensures) ∙ c .before .before .admission2 .given .1) (c .refused .ensures, refl)
 
 pub encode-spec : {M : Type 1} → statement M
 encode-spec =

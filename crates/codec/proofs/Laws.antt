@@ -1,0 +1,2 @@
+-- The laws of the entry points.
+pub mod Results

@@ -1,0 +1,3 @@
+-- The laws of DER.
+pub mod Contents
+pub mod Der

@@ -1,0 +1,201 @@
+-- Contents are the text without its separators, and these can be put back.
+use mathlib.Core.Path.{_≡_, refl, ap, sym, _∙_}
+use mathlib.Core.Bool.{Bool, true, false, _&&_, _||_, not, cond, false≢true}
+use mathlib.Core.List.{List, [], _∷_, _++_, append-assoc, append-nil}
+use Prim.Native.Nat.{ℕ, zero, suc, _+_, _/_, _%_, _≤_, _<_}
+use native.Mathlib.Omega.{arith}
+use lib.Dec.{eqb, leb, ltb}
+use lib.IntN.{ℤ, pos, negsuc}
+use lib.ListN.{length, length-append, take, drop, getD, drop-of-length-le}
+use lib.Seq.{take-at, drop-at, drop-cons, take-all}
+use native.Mathlib.Numerals.{add-one}
+use borrow.Author.Tests.{eq-eqb, eqb-true, leb-true, le-leb, lt-ltb, ne-eqb}
+use Rattle.calendar.specs.Years.{astronomicalOf}
+use Rattle.calendar.specs.declared.dates.Date.{Date}
+use Rattle.calendar.proofs.Laws.Bools.{both}
+use Rattle.texts.specs.Dates.{putAfter, putDate}
+use Rattle.texts.specs.Digits.{putDigits}
+use Rattle.texts.specs.Forms.{clockForm, dateForm, timeForm, valueForm, zoneForm, yearOf}
+use Rattle.texts.specs.Octets.{hyphen, colon, letterT, isDigit}
+use Rattle.texts.specs.Texts.{readOf, render, textOf}
+use Rattle.texts.specs.Times.{canonical, putClock, putFraction, putTime, putZone}
+use Rattle.texts.specs.Years.{yearText}
+use Rattle.texts.specs.declared.forms.DateForm.{DateForm}
+use Rattle.texts.specs.declared.forms.Form.{Form}
+use Rattle.texts.specs.declared.forms.TimeForm.{TimeForm}
+use Rattle.texts.specs.declared.values.Clock.{Clock}
+use Rattle.texts.specs.declared.values.Time.{Time}
+use Rattle.texts.specs.declared.values.Value.{Value}
+use Rattle.texts.specs.declared.values.Zone.{Zone}
+use Rattle.texts.proofs.Laws.Digits.{is-digit, length-put}
+use Rattle.types.specs.Numbers.{clockNumber, dateNumber, zoneNumber}
+use Rattle.types.specs.Types.{basicAlone, basicYmd, formOfParts, localHms, ownSettings}
+use Rattle.types.specs.declared.types.DateType.{DateType}
+use Rattle.types.specs.declared.types.Name.{Name}
+use Rattle.types.specs.declared.types.Parts.{Parts}
+use Rattle.types.specs.declared.types.TimeType.{TimeType}
+use Rattle.types.specs.declared.types.Years.{Years}
+use Rattle.values.specs.Holding.{admits, admitsDate, between, inBasic, inProleptic, inYears}
+use Rattle.values.proofs.Laws.Existence.{three}
+use Rattle.values.proofs.Laws.Holding.{date-admitted}
+use Rattle.encodings.specs.Encodings.{ofText}
+use Rattle.der.specs.Elements.{contentsOf, element, omits, tagOf, without}
+use Rattle.der.specs.Readings.{allDigits, digitsOnly, readContents, readElement, separated}
+
+-- ---- digits are kept
+
+-- no digit is a separator
+digit-kept : (name : Name) (c : ℕ) → 48 ≤ c → c ≤ 57 → omits name c ≡ false
+digit-kept Name.Listed c h k = refl
+digit-kept Name.Date c h k = ne-eqb c hyphen (λ e. omega arith)
+digit-kept Name.TimeOfDay c h k = ne-eqb c colon (λ e. omega arith)
+digit-kept Name.DateTime c h k = simp (ne-eqb c hyphen (λ e. omega arith), ne-eqb c colon (λ e. omega arith), ne-eqb c letterT (λ e. omega arith))
+
+kept-digits : (name : Name) (w n : ℕ) (r : List ℕ) → without (omits name) (putDigits w n ++ r) ≡ putDigits w n ++ without (omits name) r
+unfolding without putDigits
+kept-digits name zero n r = refl
+kept-digits name (suc w) n r =
+    rw (append-assoc, append-assoc, kept-digits name w (n / 10) ((48 + n % 10) ∷ r), digit-kept name (48 + n % 10) (omega arith) (omega arith))
+
+all-digits : (w n : ℕ) (r : List ℕ) → allDigits (putDigits w n ++ r) ≡ allDigits r
+unfolding allDigits putDigits
+all-digits zero n r = refl
+all-digits (suc w) n r = rw (append-assoc, all-digits w (n / 10) ((48 + n % 10) ∷ r), is-digit (48 + n % 10) (omega arith) (omega arith))
+
+-- no text is longer without some of its octets
+pub without-most : (p : ℕ → Bool) (l : List ℕ) → length (without p l) ≤ length l
+unfolding without
+without-most p [] = omega arith
+without-most p (c ∷ l) = go (p c) (without-most p l)
+  where
+    go : (b : Bool) → length (without p l) ≤ length l → length (cond b (without p l) (c ∷ without p l)) ≤ length (c ∷ l)
+    go true h = omega arith
+    go false h = omega arith
+
+pub without-none : (l : List ℕ) → without (omits Name.Listed) l ≡ l
+unfolding without
+without-none [] = refl
+without-none (c ∷ l) = ap (λ (r : List ℕ). c ∷ r) (without-none l)
+
+-- One octet, ..
+module _ (name : Name) (c : ℕ) where
+  pub octet-omitted : omits name c ≡ true → contentsOf name (c ∷ []) ≡ []
+  unfolding contentsOf without
+  octet-omitted o = rw o
+
+  pub octet-kept : omits name c ≡ false → contentsOf name (c ∷ []) ≡ c ∷ []
+  unfolding contentsOf without
+  octet-kept o = rw o
+
+-- .. and what is left of a text after so many octets.
+module _ (name : Name) (l : List ℕ) (i : ℕ) where
+  pub contents-step : i < length l → contentsOf name (drop i l) ≡ contentsOf name (getD l i 0 ∷ []) ++ contentsOf name (drop (i + 1) l)
+  unfolding contentsOf without
+  contents-step h = rw (add-one, drop-cons l i 0 h) (go (omits name (getD l i 0)))
+    where
+      go : (b : Bool) → cond b (without (omits name) (drop (suc i) l)) (getD l i 0 ∷ without (omits name) (drop (suc i) l))
+          ≡ cond b [] (getD l i 0 ∷ []) ++ without (omits name) (drop (suc i) l)
+      go true = refl
+      go false = refl
+
+  pub contents-count : i < length l → length (contentsOf name (drop i l)) ≡ length (contentsOf name (getD l i 0 ∷ [])) + length (contentsOf name (drop (i + 1) l))
+  contents-count h = ap length (contents-step h) ∙ length-append (contentsOf name (getD l i 0 ∷ [])) (contentsOf name (drop (i + 1) l))
+
+  pub contents-end : length l ≤ i → contentsOf name (drop i l) ≡ []
+  unfolding contentsOf without
+  contents-end h = rw (drop-of-length-le l h)
+
+-- ---- three fields and the octet c between them
+
+abbrev pub fieldsText : (c w a b d : ℕ) → List ℕ
+fieldsText c w a b d = putDigits w a ++ c ∷ (putDigits 2 b ++ c ∷ putDigits 2 d)
+
+abbrev pub fieldsDigits : (w a b d : ℕ) → List ℕ
+fieldsDigits w a b d = putDigits w a ++ (putDigits 2 b ++ putDigits 2 d)
+
+module _ (c w a b d : ℕ) where
+  pub fields-kept : (name : Name) (r : List ℕ) → omits name c ≡ true → without (omits name) (fieldsText c w a b d ++ r) ≡ fieldsDigits w a b d ++ without (omits name) r
+  unfolding without
+  fields-kept name r o = simp (append-assoc, kept-digits, o)
+
+  pub fields-back : separated c w (fieldsDigits w a b d) ≡ fieldsText c w a b d
+  unfolding separated
+  fields-back =
+      rw (
+        take-at (putDigits w a) (putDigits 2 b ++ putDigits 2 d) w (length-put w a),
+        drop-at (putDigits w a) (putDigits 2 b ++ putDigits 2 d) w (length-put w a),
+        take-at (putDigits 2 b) (putDigits 2 d) 2 (length-put 2 b),
+        drop-at (putDigits 2 b) (putDigits 2 d) 2 (length-put 2 b),
+      )
+
+  pub fields-length : length (fieldsDigits w a b d) ≡ w + 4
+  fields-length = simp (length-append, length-put) (omega arith)
+
+  pub fields-all : (r : List ℕ) → allDigits (fieldsDigits w a b d ++ r) ≡ allDigits r
+  fields-all r = simp (append-assoc, all-digits)
+
+-- ---- dates and times under the three names
+
+-- a year from 1582 to 9999 has four digits
+basic-year : (y : ℤ) → inBasic y ≡ true → (n : ℕ) × (yearText y ≡ putDigits 4 n)
+unfolding between yearText
+basic-year (pos n) e = (n, simp (lt-ltb n 10000 (omega (arith, leb-true n 9999 (both (leb 1582 n) (leb n 9999) e .1)))))
+basic-year (negsuc k) e = absurd (false≢true e)
+
+basic-only : (years : Years) (y : ℤ) → basicAlone years ≡ true → inYears years y ≡ true → inBasic y ≡ true
+basic-only (Years.Plain names) y a i = go (names .basic) (names .proleptic) (inBasic y) (inProleptic y) a i
+  where
+    go : (a b d e : Bool) → (a && not b) ≡ true → ((a && d) || (b && e)) ≡ true → d ≡ true
+    go true false true e x i = refl
+    go true false false e x i = absurd (false≢true i)
+    go true true d e x i = absurd (false≢true x)
+    go false b d e x i = absurd (false≢true x)
+basic-only (Years.Signed names) y a i = absurd (false≢true a)
+
+pub date-fields : (t : DateType) (d : Date) → basicYmd t ≡ true → dateForm d ≡ t .form → admitsDate t d ≡ true
+    → (n m k : ℕ) × (putDate d ≡ fieldsText hyphen 4 n m k)
+unfolding putDate putAfter
+date-fields t d b f e =
+    let p = both (eqb (dateNumber (t .form)) 3) (basicAlone (t .years)) b in
+    go d (eqb-true _ _ (p .0)) f (basic-only (t .years) _ (p .1) (date-admitted t d e .0))
+  where
+    other : {A : Type 0} (g : DateForm) → (dateNumber g ≡ 3 → ⊥) → dateNumber (t .form) ≡ 3 → g ≡ t .form → A
+    other g n e f = absurd (n (ap dateNumber f ∙ e))
+
+    go : (d : Date) → dateNumber (t .form) ≡ 3 → dateForm d ≡ t .form → inBasic (astronomicalOf (yearOf d)) ≡ true → (n m k : ℕ) × (putDate d ≡ fieldsText hyphen 4 n m k)
+    go (Date.YMD y m k) e f i = let q = basic-year (astronomicalOf y) i in (q .0, m, k, rw (q .1))
+    go (Date.Y y) e f i = other DateForm.Y (λ z. omega arith) e f
+    go (Date.YM y m) e f i = other DateForm.YM (λ z. omega arith) e f
+    go (Date.YD y k) e f i = other DateForm.YD (λ z. omega arith) e f
+    go (Date.YW y w) e f i = other DateForm.YW (λ z. omega arith) e f
+    go (Date.YWD y w k) e f i = other DateForm.YWD (λ z. omega arith) e f
+
+pub time-fields : (t : TimeType) (u : Time) → localHms t ≡ true → timeForm u ≡ t .form → (h m s : ℕ) × (putTime canonical u ≡ fieldsText colon 2 h m s)
+unfolding putTime putClock putFraction putZone
+time-fields t u b f =
+    let p = three (eqb (clockNumber (t .form .clock)) 3) (eqb (t .form .digits) 0) (eqb (zoneNumber (t .form .zone)) 1) b in
+    let c : clockForm (u .clock) ≡ t .form .clock = ap (λ (g : TimeForm). g .clock) f in
+    let d : u .digits ≡ t .form .digits = ap (λ (g : TimeForm). g .digits) f in
+    let z : zoneForm (u .zone) ≡ t .form .zone = ap (λ (g : TimeForm). g .zone) f in
+    go (u .clock) refl (u .zone) refl (ap clockNumber c ∙ eqb-true _ _ (p .0)) (d ∙ eqb-true _ _ (p .1)) (ap zoneNumber z ∙ eqb-true _ _ (p .2))
+  where
+    go : (c : Clock) → u .clock ≡ c → (z : Zone) → u .zone ≡ z → clockNumber (clockForm c) ≡ 3 → u .digits ≡ 0 → zoneNumber (zoneForm z) ≡ 1
+        → (h m s : ℕ) × (putTime canonical u ≡ fieldsText colon 2 h m s)
+    go (Clock.HMS h m s) c Zone.L z e d g = (h, m, s, simp (c, z, d, append-nil))
+    go (Clock.HMS h m s) c Zone.Z z e d g = absurd (omega arith)
+    go (Clock.HMS h m s) c (Zone.LD x) z e d g = absurd (omega arith)
+    go (Clock.H h) c y z e d g = absurd (omega arith)
+    go (Clock.HM h m) c y z e d g = absurd (omega arith)
+
+-- ---- elements
+
+tag-size : (name : Name) → (1 ≤ length (tagOf name)) × (length (tagOf name) ≤ 2)
+tag-size Name.Listed = omega arith
+tag-size Name.Date = omega arith
+tag-size Name.TimeOfDay = omega arith
+tag-size Name.DateTime = omega arith
+
+-- How long an element is.
+pub element-size : (name : Name) (l : List ℕ) → (length (element name l) ≡ length (tagOf name) + 1 + length l) × (1 ≤ length (tagOf name)) × (length (tagOf name) ≤ 2)
+unfolding element
+element-size name l = (length-append (tagOf name) (length l ∷ l) ∙ omega arith, tag-size name .0, tag-size name .1)

@@ -1,0 +1,171 @@
+-- DER meets what is asked of a kind.
+use mathlib.Core.Path.{_≡_, refl, ap, sym, _∙_}
+use mathlib.Core.Bool.{Bool, true, false, _&&_, cond, false≢true}
+use mathlib.Core.List.{List, [], _∷_, _++_, append-assoc, append-nil}
+use Prim.Native.Nat.{ℕ, _+_, _≤_}
+use native.Mathlib.Omega.{arith}
+use lib.Dec.{eqb, leb}
+use lib.ListN.{length, take, drop, length-append}
+use lib.Seq.{take-all, take-at, drop-at}
+use borrow.Author.Tests.{eq-eqb, le-leb}
+use Rattle.answers.specs.Outcomes.{Answer, done}
+use Rattle.answers.specs.declared.counts.Bits.{Bits}
+use Rattle.calendar.proofs.Laws.Bools.{both}
+use Rattle.calendar.specs.declared.dates.Date.{Date}
+use Rattle.printing.proofs.Laws.Canonical.{text-length}
+use Rattle.texts.specs.Dates.{putDate}
+use Rattle.texts.specs.Forms.{dateForm, timeForm, valueForm}
+use Rattle.texts.specs.Octets.{hyphen, colon, letterT}
+use Rattle.texts.specs.Texts.{readOf, render, textOf}
+use Rattle.texts.specs.Times.{canonical, putTime}
+use Rattle.texts.specs.declared.forms.Form.{Form}
+use Rattle.texts.specs.declared.values.Spelling.{Spelling}
+use Rattle.texts.specs.declared.values.Time.{Time}
+use Rattle.texts.specs.declared.values.Value.{Value}
+use Rattle.types.specs.Types.{basicYmd, formOf, formOfParts, localHms, ownSettings, wellFormed, wellParts}
+use Rattle.types.specs.declared.types.DateType.{DateType}
+use Rattle.types.specs.declared.types.Name.{Name}
+use Rattle.types.specs.declared.types.Parts.{Parts}
+use Rattle.types.specs.declared.types.TimeType.{TimeType}
+use Rattle.types.specs.declared.types.«Type».{«Type» as Ty}
+use Rattle.values.specs.Admission.{admitted}
+use Rattle.values.specs.Existence.{existsValue}
+use Rattle.values.specs.Holding.{admits, admitsDate}
+use Rattle.values.proofs.Laws.Existing.{exists-digits}
+use Rattle.values.proofs.Laws.Holding.{in-type}
+use Rattle.lists.specs.Octets.{eqList}
+use Rattle.kinds.specs.Kinds.{Option, some, none}
+use Rattle.kinds.specs.Demands.{Holds, Lawful}
+use Rattle.kinds.proofs.Laws.Coding as Coding
+use Rattle.encodings.specs.Encodings.{ofText}
+use Rattle.encodings.proofs.Laws.Encodings.{answerOf, encoded-admitted, text-read}
+use Rattle.der.specs.Der.{der, derEncoded, nameOf, noBits}
+use Rattle.der.specs.Elements.{contentsOf, element, elementOf, omits, without}
+use Rattle.der.specs.Readings.{allDigits, dated, digitsOnly, readContents, readElement, separated, timed}
+use Rattle.der.proofs.Laws.Contents.{date-fields, element-size, fields-all, fields-back, fields-kept, fields-length, fieldsDigits, fieldsText, time-fields, without-most, without-none}
+
+-- ---- the length
+
+-- "one octet of length (0 to 127)": the contents of every value have fewer.
+pub length-most : (name : Name) (v : Value) → existsValue v ≡ true → length (contentsOf name (textOf v)) ≤ 52
+unfolding contentsOf
+length-most name v e = let a = without-most (omits name) (textOf v) in let b = text-length v (exists-digits v e) in omega arith
+
+-- ---- what is written is read
+
+element-read : (name : Name) (form : Form) (l : List ℕ) → length l ≤ 127 → readElement name form (element name l) ≡ readContents name form l
+unfolding readElement element eqList
+element-read Name.Listed form l h = simp (le-leb (length l) 127 h, le-leb (length l) (length l) (omega arith), take-all (length l) l (omega arith))
+element-read Name.Date form l h = simp (le-leb (length l) 127 h, le-leb (length l) (length l) (omega arith), take-all (length l) l (omega arith))
+element-read Name.TimeOfDay form l h = simp (le-leb (length l) 127 h, le-leb (length l) (length l) (omega arith), take-all (length l) l (omega arith))
+element-read Name.DateTime form l h = simp (le-leb (length l) 127 h, le-leb (length l) (length l) (omega arith), take-all (length l) l (omega arith))
+
+-- digits alone
+digits-only : (n : ℕ) (l : List ℕ) → length l ≡ n → allDigits l ≡ true → digitsOnly n l ≡ true
+unfolding digitsOnly
+digits-only n l e a = simp (eq-eqb (length l) n e, a)
+
+fields-only : (w a b d : ℕ) → digitsOnly (w + 4) (fieldsDigits w a b d) ≡ true
+unfolding allDigits
+fields-only w a b d =
+    digits-only (w + 4) (fieldsDigits w a b d) (fields-length 0 w a b d) (rw (← append-nil (fieldsDigits w a b d)) (fields-all 0 w a b d []))
+
+-- The contents of a value that a type holds give what its text does.
+module _ (form : Form) where
+  date-contents : (t : DateType) (d : Date) → basicYmd t ≡ true → dateForm d ≡ t .form → admitsDate t d ≡ true
+      → readContents Name.Date form (contentsOf Name.Date (putDate d)) ≡ ofText (readOf form (putDate d))
+  unfolding contentsOf without
+  date-contents t d b f e =
+      let q = date-fields t d b f e in
+      let k : contentsOf Name.Date (putDate d) ≡ fieldsDigits 4 (q .0) (q .1) (q .2) =
+      ap (contentsOf Name.Date) (q .3 ∙ sym (append-nil _)) ∙ fields-kept hyphen 4 (q .0) (q .1) (q .2) Name.Date [] refl ∙ append-nil _ in
+      rw (k, fields-only 4 (q .0) (q .1) (q .2), fields-back hyphen 4 (q .0) (q .1) (q .2), q .3)
+
+  time-contents : (t : TimeType) (u : Time) → localHms t ≡ true → timeForm u ≡ t .form
+      → readContents Name.TimeOfDay form (contentsOf Name.TimeOfDay (putTime canonical u)) ≡ ofText (readOf form (putTime canonical u))
+  unfolding contentsOf without
+  time-contents t u b f =
+      let q = time-fields t u b f in
+      let k : contentsOf Name.TimeOfDay (putTime canonical u) ≡ fieldsDigits 2 (q .0) (q .1) (q .2) =
+      ap (contentsOf Name.TimeOfDay) (q .3 ∙ sym (append-nil _)) ∙ fields-kept colon 2 (q .0) (q .1) (q .2) Name.TimeOfDay [] refl ∙ append-nil _ in
+      rw (k, fields-only 2 (q .0) (q .1) (q .2), fields-back colon 2 (q .0) (q .1) (q .2), q .3)
+
+  date-time-contents : (t : DateType) (u : TimeType) (d : Date) (e : Time) → basicYmd t ≡ true → localHms u ≡ true → dateForm d ≡ t .form → timeForm e ≡ u .form
+      → admitsDate t d ≡ true
+      → readContents Name.DateTime form (contentsOf Name.DateTime (putDate d ++ letterT ∷ putTime canonical e)) ≡ ofText (readOf form (putDate d ++ letterT ∷ putTime canonical e))
+  unfolding contentsOf without allDigits
+  date-time-contents t u d e b g f h a =
+      let q = date-fields t d b f a in
+      let r = time-fields u e g h in
+      let x = fieldsDigits 4 (q .0) (q .1) (q .2) in
+      let y = fieldsDigits 2 (r .0) (r .1) (r .2) in
+      let y-kept : contentsOf Name.DateTime (putTime canonical e) ≡ y =
+      ap (contentsOf Name.DateTime) (r .3 ∙ sym (append-nil _)) ∙ fields-kept colon 2 (r .0) (r .1) (r .2) Name.DateTime [] refl ∙ append-nil _ in
+      let k : contentsOf Name.DateTime (putDate d ++ letterT ∷ putTime canonical e) ≡ x ++ y =
+      ap (λ (l : List ℕ). contentsOf Name.DateTime (l ++ letterT ∷ putTime canonical e)) (q .3)
+      ∙ fields-kept hyphen 4 (q .0) (q .1) (q .2) Name.DateTime (letterT ∷ putTime canonical e) refl
+      ∙ ap (λ (l : List ℕ). x ++ l) y-kept in
+      let n : length (x ++ y) ≡ 14 = length-append x y ∙ rw (fields-length 0 4 (q .0) (q .1) (q .2), fields-length 0 2 (r .0) (r .1) (r .2)) in
+      let o : digitsOnly 14 (x ++ y) ≡ true =
+      digits-only 14 (x ++ y) n
+      (fields-all 0 4 (q .0) (q .1) (q .2) y ∙ rw (← append-nil y) (fields-all 0 2 (r .0) (r .1) (r .2) [])) in
+      let front : take 8 (x ++ y) ≡ x = take-at x y 8 (fields-length 0 4 (q .0) (q .1) (q .2)) in
+      let back : drop 8 (x ++ y) ≡ y = drop-at x y 8 (fields-length 0 4 (q .0) (q .1) (q .2)) in
+      rw (k, o, front, back, fields-back hyphen 4 (q .0) (q .1) (q .2), fields-back colon 2 (r .0) (r .1) (r .2), q .3, r .3)
+
+own-contents : (name : Name) (p : Parts) (v : Value) → ownSettings name p ≡ true → valueForm v ≡ formOfParts p → admits p v ≡ true
+    → readContents name (formOfParts p) (contentsOf name (textOf v)) ≡ ofText (readOf (formOfParts p) (textOf v))
+unfolding contentsOf render
+own-contents Name.Listed p v o f a = rw (without-none (textOf v))
+own-contents Name.Date (Parts.Date t) (Value.Date d) o f a = date-contents (Form.Date (t .form)) t d o (let g : dateForm d ≡ t .form = cc in g) a
+own-contents Name.TimeOfDay (Parts.Time t) (Value.Time u) o f a = time-contents (Form.Time (t .form)) t u o (let g : timeForm u ≡ t .form = cc in g)
+own-contents Name.DateTime (Parts.DateTime t u) (Value.DateTime d e) o f a =
+    let p = both (basicYmd t) (localHms u) o in
+    date-time-contents (Form.DateTime (t .form) (u .form)) t u d e (p .0) (p .1) (let g : dateForm d ≡ t .form = cc in g) (let g : timeForm e ≡ u .form = cc in g)
+    (both (admitsDate t d) _ a .0)
+own-contents Name.Date (Parts.Date t) (Value.Time u) o f a = absurd (let z : _≡_ {A = ℕ} 0 1 = cc in omega arith)
+own-contents Name.Date (Parts.Date t) (Value.DateTime d u) o f a = absurd (let z : _≡_ {A = ℕ} 0 1 = cc in omega arith)
+own-contents Name.Date (Parts.Time t) v o f a = absurd (false≢true o)
+own-contents Name.Date (Parts.DateTime t u) v o f a = absurd (false≢true o)
+own-contents Name.TimeOfDay (Parts.Date t) v o f a = absurd (false≢true o)
+own-contents Name.TimeOfDay (Parts.Time t) (Value.Date d) o f a = absurd (let z : _≡_ {A = ℕ} 0 1 = cc in omega arith)
+own-contents Name.TimeOfDay (Parts.Time t) (Value.DateTime d u) o f a = absurd (let z : _≡_ {A = ℕ} 0 1 = cc in omega arith)
+own-contents Name.TimeOfDay (Parts.DateTime t u) v o f a = absurd (false≢true o)
+own-contents Name.DateTime (Parts.Date t) v o f a = absurd (false≢true o)
+own-contents Name.DateTime (Parts.Time t) v o f a = absurd (false≢true o)
+own-contents Name.DateTime (Parts.DateTime t u) (Value.Date d) o f a = absurd (let z : _≡_ {A = ℕ} 0 1 = cc in omega arith)
+own-contents Name.DateTime (Parts.DateTime t u) (Value.Time e) o f a = absurd (let z : _≡_ {A = ℕ} 0 1 = cc in omega arith)
+
+octets-read : (t : Ty) (v : Value) → Holds der t v → readElement (t .name) (formOf t) (elementOf (t .name) v) ≡ some v
+unfolding elementOf wellFormed
+octets-read t v h =
+    let i = in-type t v (h .inside) in
+    element-read (t .name) (formOf t) (contentsOf (t .name) (textOf v)) (let m = length-most (t .name) v (h .real) in omega arith)
+    ∙ own-contents (t .name) (t .parts) v (both (wellParts (t .parts)) _ (h .formed) .1) (i .0) (i .1)
+    ∙ text-read nameOf elementOf (λ name v. noBits) readElement t v h canonical
+
+pub der-lawful : Lawful der
+der-lawful = record { text-own = λ t v h. text-read nameOf elementOf (λ name v. noBits) readElement t v h canonical; octets-own = octets-read }
+
+-- Two values of one type never share an encoding.
+pub der-one-encoding : (t : Ty) (a b : Value) → Holds der t a → Holds der t b → elementOf (t .name) a ≡ elementOf (t .name) b → a ≡ b
+der-one-encoding t a b h k e = Coding.one-encoding der der-lawful t a b h k e
+
+-- Any text of a value that a type holds becomes exactly its element.
+pub der-encodes : (t : Ty) (v : Value) → Holds der t v → (s : Spelling) → derEncoded t (render s v) ≡ done (elementOf (t .name) v) noBits
+der-encodes t v h s = Coding.encoded-own der t (render s v) v h (text-read nameOf elementOf (λ name v. noBits) readElement t v h s)
+
+-- A result is short: the tag, the length and the contents.
+pub der-encoded-short : (t : Ty) (text result : List ℕ) (bits : Bits) → derEncoded t text ≡ done result bits → length result ≤ 55
+unfolding elementOf
+der-encoded-short t text result bits e =
+    let x = Coding.encoded-only der t text result bits e in
+    let q : elementOf (t .name) (x .0) ≡ result = let r = x .3 in cc in
+    let s = element-size (t .name) (contentsOf (t .name) (textOf (x .0))) in
+    let m = length-most (t .name) (x .0) (x .1 .real) in
+    rw (← q) (omega arith)
+
+-- ---- the encoder's answer is that of an admission
+
+pub der-admitted : (t : Ty) (text : List ℕ) → derEncoded t text ≡ answerOf elementOf (λ name v. noBits) (nameOf t) (admitted t text)
+der-admitted = encoded-admitted nameOf elementOf (λ name v. noBits) readElement

@@ -1,0 +1,48 @@
+-- `elements::encode` meets its contract: a text that is admitted, or its refusal.
+use mathlib.Core.Path.{_∙_, refl, sym}
+use denote.Ref.{now}
+use Rattle.answers.specs.Outcomes.{outcomeOf, roomOf}
+use Rattle.values.proofs.Laws.Existing.{admitted-held}
+use Rattle.values.proofs.Laws.Holding.{held}
+use Rattle.der.proofs.Laws.Der.{der-admitted}
+use borrow.Author.Needs.{needs}
+use Rattle.der.proofs.elements.encode.Statement.{statement}
+use Rattle.der.proofs.elements.encode.Tie as tie
+
+admit-requires : tie.Need-admit-requires
+admit-requires c κs = tt
+
+enum-known-admission : tie.Need-enum-known-admission
+enum-known-admission c = search needs
+
+write-value-requires : tie.Need-write-value-requires
+write-value-requires c κs = held _ _ (admitted-held _ _ _ (sym (c .before .before .before .before .admit .ensures) ∙ c .before .before .admission .given .1) .1) .0
+
+enum-known-admission-2 : tie.Need-enum-known-admission-2
+enum-known-admission-2 c = search needs
+
+refused-requires : tie.Need-refused-requires
+refused-requires c κs = tt
+
+same-length : tie.Need-same-length
+same-length c = search needs
+
+returns : tie.Need-returns
+returns c = rw (der-admitted (c .before .before .before .before .before .before .before .before .before .before .args .t) (now (c .before .before .before .before .before .before .before .before .before .before .args .text)), sym (c .before .before .before .before .before .before .before .admit .ensures) ∙ c .before .before .before .before .before .admission .given .1) (c .before .before .write-value .ensures)
+
+returns-2 : tie.Need-returns-2
+unfolding outcomeOf roomOf
+returns-2 c = rw (der-admitted (c .before .before .before .before .before .before .before .args .t) (now (c .before .before .before .before .before .before .before .args .text)), sym (c .before .before .before .before .admit .ensures) ∙ c .before .before .admission2 .given .1) (c .refused .ensures, refl)
+
+pub encode-spec : {M : Type 1} → statement M
+encode-spec =
+    tie.close
+    (tie.spec
+    admit-requires
+    enum-known-admission
+    write-value-requires
+    enum-known-admission-2
+    refused-requires
+    same-length
+    returns
+    returns-2)

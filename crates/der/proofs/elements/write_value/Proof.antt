@@ -1,0 +1,45 @@
+-- `elements::write_value` meets its contract: the text of a value is short.
+use mathlib.Core.Path.{_≡_, sym}
+use native.Mathlib.Omega.{arith}
+use lib.ListN.{length, take}
+use lib.Seq.{length-take-le}
+use Rattle.printing.specs.Canonical.{capacity}
+use Rattle.values.proofs.Laws.Existing.{printed-text, text-short, text-taken}
+use Rattle.der.specs.Elements.{elementOf}
+use borrow.Author.Needs.{needs}
+use Rattle.der.proofs.elements.write_value.Statement.{statement}
+use Rattle.der.proofs.elements.write_value.Tie as tie
+
+slice-aggregate-text-into : tie.Need-slice-aggregate-text-into
+slice-aggregate-text-into c = search needs
+
+text-into-requires : tie.Need-text-into-requires
+text-into-requires c κs = tt
+
+array-share-prefix-text : tie.Need-array-share-prefix-text
+array-share-prefix-text c = let w : length (c .before .text-into .last .1 .0) ≡ capacity = search needs in omega (arith, text-short _ _ (omega arith) (c .before .text-into .ensures .0))
+
+slice-aggregate-write-element : tie.Need-slice-aggregate-write-element
+slice-aggregate-write-element c = sym (length-take-le _ _ (let w : length (c .before .before .text-into .last .1 .0) ≡ capacity = search needs in omega (arith, text-short _ _ (omega arith) (c .before .before .text-into .ensures .0))))
+
+write-element-requires : tie.Need-write-element-requires
+write-element-requires c κs = let w : length (c .before .before .before .text-into .last .1 .0) ≡ capacity = search needs in let k = text-short _ _ (omega arith) (c .before .before .before .text-into .ensures .0) in let e = length-take-le (c .before .before .before .text-into .result) (c .before .before .before .text-into .last .1 .0) (omega arith) in omega arith
+
+same-length : tie.Need-same-length
+same-length c = search needs
+
+returns : tie.Need-returns
+unfolding elementOf
+returns c = rw (← printed-text _ (c .before .before .before .before .before .before .before .before .before .pre), ← text-taken _ _ (omega arith) (c .before .before .before .before .before .before .text-into .ensures .0) (c .before .before .before .before .before .before .text-into .ensures .1)) (c .before .before .write-element .ensures)
+
+pub write-value-spec : {M : Type 1} → statement M
+write-value-spec =
+    tie.close
+    (tie.spec
+    slice-aggregate-text-into
+    text-into-requires
+    array-share-prefix-text
+    slice-aggregate-write-element
+    write-element-requires
+    same-length
+    returns)

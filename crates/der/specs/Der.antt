@@ -1,0 +1,30 @@
+-- DER of dates and times as a kind of value with an encoding. A type's tag goes by its name.
+use Prim.Native.Nat.{ℕ}
+use mathlib.Core.List.{List}
+use Rattle.answers.specs.Outcomes.{Answer}
+use Rattle.answers.specs.declared.counts.Bits.{Bits}
+use Rattle.texts.specs.declared.forms.Form.{Form}
+use Rattle.texts.specs.declared.values.Value.{Value}
+use Rattle.types.specs.declared.types.Name.{Name}
+use Rattle.types.specs.declared.types.«Type».{«Type» as Ty}
+use Rattle.kinds.specs.Kinds.{Kind}
+use Rattle.kinds.specs.Coding.{encoded}
+use Rattle.encodings.specs.Encodings.{encodedBy}
+use Rattle.der.specs.Elements.{elementOf}
+use Rattle.der.specs.Readings.{readElement}
+
+-- What of a type decides the tag.
+abbrev pub nameOf : Ty → Name
+nameOf t = t .name
+
+-- "the bit count: .. in DER 0"
+abbrev pub noBits : Bits
+noBits = record { count = 0 }
+
+-- Dates and times in DER.
+abbrev pub der : Kind Ty Form Name Value
+der = encodedBy nameOf elementOf (λ name v. noBits) readElement
+
+-- What encoding a text answers.
+abbrev pub derEncoded : Ty → List ℕ → Answer
+derEncoded t text = encoded der t text

@@ -1,0 +1,4 @@
+-- What a reader must believe of DER.
+pub mod Elements
+pub mod Readings
+pub mod Der

@@ -1,0 +1,2 @@
+-- The laws of every encoding of dates and times.
+pub mod Encodings

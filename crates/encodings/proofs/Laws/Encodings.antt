@@ -1,0 +1,65 @@
+-- What holds of dates and times in any encoding.
+use mathlib.Core.Path.{_≡_, refl, ap}
+use mathlib.Core.Bool.{Bool, true, false, cond}
+use mathlib.Core.List.{List}
+use Prim.Native.Nat.{ℕ, _≤_}
+use lib.ListN.{length}
+use Rattle.answers.specs.Outcomes.{Answer, done, refused}
+use Rattle.answers.specs.declared.counts.Bits.{Bits}
+use Rattle.answers.specs.declared.refusals.Refusal.{Refusal}
+use Rattle.texts.specs.Texts.{readOf, render, textOf}
+use Rattle.texts.specs.declared.forms.Form.{Form}
+use Rattle.texts.specs.declared.texts.TextRead.{TextRead}
+use Rattle.texts.specs.declared.values.Spelling.{Spelling}
+use Rattle.texts.specs.declared.values.Value.{Value}
+use Rattle.types.specs.Types.{formOf, wellFormed}
+use Rattle.types.specs.declared.types.«Type».{«Type» as Ty}
+use Rattle.printing.proofs.Laws.Canonical.{text-length}
+use Rattle.values.specs.Admission.{admitted, judged, judgedRead}
+use Rattle.values.specs.Existence.{existsValue}
+use Rattle.values.specs.Holding.{holdsOf, inType}
+use Rattle.values.specs.declared.admission.Admission.{Admission}
+use Rattle.values.proofs.Laws.Existing.{exists-digits, held-read}
+use Rattle.values.proofs.Laws.Holding.{holds-both}
+use Rattle.kinds.specs.Kinds.{Option, some, none}
+use Rattle.kinds.specs.Coding.{encoded, decoded, judgedText, judgedAs}
+use Rattle.kinds.specs.Demands.{Holds}
+use Rattle.kinds.proofs.Laws.Coding as Coding
+use Rattle.encodings.specs.Encodings.{ofText, encodedBy}
+
+-- What an admission answers: the encoding of the value, or the refusal.
+abbrev pub answerOf : {R : Type 0} → (R → Value → List ℕ) → (R → Value → Bits) → R → Admission → Answer
+answerOf encoding count row (Admission.Value v) = done (encoding row v) (count row v)
+answerOf encoding count row (Admission.Refused why) = refused why
+
+module _ {R : Type 0} (row : Ty → R) (encoding : R → Value → List ℕ) (count : R → Value → Bits) (readOctets : R → Form → List ℕ → Option Value) where
+  pub held-by : (t : Ty) (v : Value) → Holds (encodedBy row encoding count readOctets) t v → holdsOf t v ≡ true
+  held-by t v h = holds-both t v (h .real) (h .inside)
+
+  -- any text of a value that a type holds is read as it
+  pub text-read : (t : Ty) (v : Value) → Holds (encodedBy row encoding count readOctets) t v → (s : Spelling) → ofText (readOf (formOf t) (render s v)) ≡ some v
+  text-read t v h s = ap ofText (held-read t v (held-by t v h) s)
+
+  -- what the decoder returns is a short text
+  pub decoded-short : (t : Ty) (octets result : List ℕ) (bits : Bits)
+      → decoded (encodedBy row encoding count readOctets) t octets ≡ done result bits → length result ≤ 52
+  decoded-short t octets result bits e =
+      let a = Coding.decoded-only (encodedBy row encoding count readOctets) t octets result bits e in
+      rw (a .text-is) (text-length (a .value) (exists-digits (a .value) (a .held .real)))
+
+  -- the encoder's answer, as the code has it
+  pub encoded-admitted : (t : Ty) (text : List ℕ) → encoded (encodedBy row encoding count readOctets) t text ≡ answerOf encoding count (row t) (admitted t text)
+  unfolding encoded judgedText judgedAs admitted judged
+  encoded-admitted t text = formed (wellFormed t) (readOf (formOf t) text)
+    where
+      formed : (b : Bool) (r : TextRead) → cond b (judgedText (encodedBy row encoding count readOctets) t (ofText r)) (refused Refusal.Settings)
+          ≡ answerOf encoding count (row t) (cond b (judgedRead t r) (Admission.Refused Refusal.Settings))
+      formed false r = refl
+      formed true TextRead.NotOfForm = refl
+      formed true (TextRead.Value v s) = real (existsValue v) (inType t v)
+        where
+          real : (a b : Bool) → cond a (cond b (done (encoding (row t) v) (count (row t) v)) (refused Refusal.Membership)) (refused Refusal.Existence)
+              ≡ answerOf encoding count (row t) (cond a (cond b (Admission.Value v) (Admission.Refused Refusal.Membership)) (Admission.Refused Refusal.Existence))
+          real false b = refl
+          real true false = refl
+          real true true = refl

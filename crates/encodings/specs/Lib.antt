@@ -1,0 +1,2 @@
+-- What a reader must believe of every encoding of dates and times.
+pub mod Encodings

@@ -1,0 +1,104 @@
+"""Checks convert_lines.py against document 01's example and hand-written replies, and that its lines ask for all."""
+
+import sys
+
+from convert_lines import all_lines, replies, reply
+
+# all that is read, all that is written
+WHOLE = (
+    # "Input" and "Whole output"
+    (b"per;DATE;2006-06-13\nder;DATE;2006-06-13\nper;DATE;2006-02-29\n", b"0 0558\n0 1F1F083230303630363133\n4\n"),
+    # the last line need not end in a newline, and none begins after the last newline
+    (b"per;DATE;2006-06-13\nper;DATE;2006-02-29", b"0 0558\n4\n"),
+    (b"", b""),
+    (b"\n", b"?\n"),
+    (b"\nper;DATE;2006-06-13\n\n", b"?\n0 0558\n?\n"),
+    # a carriage return is an octet like any other
+    (b"per;DATE;2006-06-13\r\n\r\n", b"3\n?\n"),
+    # a line of more than 1,024 octets has one reply
+    (b"per;DATE;2006-06-13 " * 10000 + b"\nper;DATE;2006-06-13\n", b"?\n0 0558\n"),
+)
+
+# line, reply
+LINES = (
+    # "the number and, after 0, the hex or text"
+    (b"unper;DATE;0558", b"0 2006-06-13"),
+    (b"unper;DATE;BFC780", b"0 2004-02-29"),
+    (b"unper;DATE;bfC780", b"0 2004-02-29"),
+    (b"per;DATE;2004-02-29", b"0 BFC780"),
+    (b"der;Basic=Time Time=HMF1 Local-or-UTC=LD;15:27,5-01:00", b"0 0E0A31353A32372E352D3031"),
+    (b"unper;DATE;055", b"?"),
+    (b"unper;DATE;", b"3"),
+    (b"unper;DATE;0478", b"4"),
+    (b"unper;DATE;C0818B5580", b"5"),
+    (b"unper;DATE;055800", b"6"),
+    # "fewer than two semicolons"
+    (b"per", b"?"),
+    (b"per;DATE", b"?"),
+    (b"per;;", b"1"),
+    (b"per;DATE;", b"3"),
+    (b"per;DATE;2006-06-13;", b"3"),
+    (b"unper;DATE;0558;", b"?"),
+    # "an unknown work"
+    (b";DATE;2006-06-13", b"?"),
+    (b"Per;DATE;2006-06-13", b"?"),
+    (b"per ;DATE;2006-06-13", b"?"),
+    (b"ber;DATE;2006-06-13", b"?"),
+    (b"under;DATE;1F1F083230303630363133", b"?"),
+    # "hex input that isn't whole pairs of hex digits", whatever the type is
+    (b"unper;DATE;0x0558", b"?"),
+    (b"unper;DATE;05 58", b"?"),
+    (b"unper;DATE;05G8", b"?"),
+    (b"unper;nothing;5", b"?"),
+    (b"unper;nothing;", b"1"),
+    # "more than 1,024 octets"
+    (b"per;DATE;" + b"0" * 1015, b"3"),
+    (b"per;DATE;" + b"0" * 1016, b"?"),
+    (b"unper;DATE;0558" + b"0" * 1008, b"6"),
+    (b"unper;DATE ;" + b"0" * 1012, b"1"),
+    (b"unper;DATE ;" + b"0" * 1013, b"?"),
+    # refusals 1 and 2
+    (b"der;DATE|DATE;2006-06-13", b"1"),
+    (b"der;Basic=Date Date=Y Year=Basic|Basic=Date Date=Y Year=L5;2006", b"2"),
+)
+
+# "6 | decoding only"; 7 is never given, as the room is longer than any result
+FIRST_WORDS = {
+    b"per": {b"0", b"1", b"2", b"3", b"4", b"5", b"?"},
+    b"der": {b"0", b"1", b"2", b"3", b"4", b"5", b"?"},
+    b"unper": {b"0", b"1", b"2", b"3", b"4", b"5", b"6", b"?"},
+    b"under": {b"?"},
+}
+
+
+def agree(found, expected, *what):
+    """Ends the program with a message when the two differ."""
+    if found != expected:
+        sys.exit("%s: found %r, expected %r" % (" ".join(map(str, what)), found, expected))
+
+
+def check_lines():
+    """That the lines ask for each number that a work can give, and have many lengths."""
+    lines = all_lines()
+    found = {work: set() for work in FIRST_WORDS}
+    for each in lines:
+        work, semicolon, _ = each.partition(b";")
+        if work in found and semicolon:
+            found[work].add(reply(each).split(b" ")[0])
+    agree(found, FIRST_WORDS, "replies")
+    agree(len(set(lines)) >= 20000 and sum(map(len, lines)) < 4000000, True, "number of lines and octets")
+    agree({0, 1, 1023, 1024, 1025, 5000, 70000, 200000} <= set(map(len, lines)), True, "lengths")
+    agree(reply(lines[-1])[:2], b"0 ", "last line")
+
+
+def main():
+    """Ends with a message at the first disagreement; prints nothing when there is none."""
+    for given, expected in WHOLE:
+        agree(replies(given), expected, given[:60])
+    for given, expected in LINES:
+        agree(reply(given), expected, given[:60], len(given))
+    check_lines()
+
+
+if __name__ == "__main__":
+    main()
