@@ -12,7 +12,7 @@ use Rattle.lists.specs.Lists.{spanTo}
 use Rattle.lists.specs.Octets.{bytes, eqList}
 use Rattle.kinds.specs.Kinds.{Option, some, none}
 use Rattle.types.specs.Types.{noLimits}
-use Rattle.codec.specs.Coding.{perEncode, perDecode}
+use Rattle.codec.specs.Coding.{perEncode, perDecode, derEncode}
 
 -- "more than 1,024 octets prints `?`": a line without its newline.
 abbrev pub longest : ℕ
@@ -66,8 +66,9 @@ ofOctets reply none = unasked
 unfoldable pub worked : List ℕ → List ℕ → List ℕ → List ℕ
 worked work settings input =
     cond (eqList work (bytes "per")) (shown toHex (perEncode settings noLimits input))
+    (cond (eqList work (bytes "der")) (shown toHex (derEncode settings noLimits input))
     (cond (eqList work (bytes "unper")) (ofOctets (λ octets. shown asText (perDecode settings noLimits octets)) (fromHex input))
-    unasked)
+    unasked))
 
 -- What follows the first semicolon, cut at its own first one.
 unfoldable pub cutAgain : List ℕ → List ℕ → List ℕ

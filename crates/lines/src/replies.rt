@@ -6,7 +6,7 @@ ghost use lib.ListN.{length};
 ghost use Rattle.lists.specs.Octets.{bytes};
 ghost use Rattle.printing.specs.Stores.{Put};
 ghost use Rattle.types.specs.Types.{noLimits};
-ghost use Rattle.codec.specs.Coding.{perEncode, perDecode};
+ghost use Rattle.codec.specs.Coding.{perEncode, perDecode, derEncode};
 ghost use Rattle.lines.specs.Lines.{asText, cutAgain, fromHex, longest, ofOctets, shown, toHex, unasked, worked};
 ghost use Rattle.lines.specs.Rooms.{capacity, replyLength, roomWith};
 ghost use Rattle.lines.specs.Steps.{replyTo};
@@ -14,6 +14,7 @@ use crate::hex::Hex;
 use crate::hex::put_hex;
 use crate::hex::read_hex;
 use answers::Outcome;
+use codec::der_encode;
 use codec::per_decode;
 use codec::per_encode;
 use lists::lists::find;
@@ -109,6 +110,17 @@ fn per_reply(settings: &[u8], text: &[u8], room: &mut [u8]) -> usize
     hex_reply(outcome, &buffer, room)
 }
 
+// The reply to `der`.
+fn der_reply(settings: &[u8], text: &[u8], room: &mut [u8]) -> usize
+    requires { ⌜ capacity ≤ length (now room) ⌝ }
+    ensures { λ r. ⌜ Put (now (room .entry)) (now (room .exit)) 0 (shown toHex (derEncode (now (settings .entry)) noLimits (now (text .entry)))) r ⌝ }
+    ensures { λ r. ⌜ r ≤ capacity ⌝ }
+{
+    let mut buffer = [0u8; TEXT_CAPACITY];
+    let outcome = der_encode(settings, Limits::NONE, text, &mut buffer);
+    hex_reply(outcome, &buffer, room)
+}
+
 // The reply to octets in unaligned PER.
 fn octets_reply(settings: &[u8], octets: &[u8], room: &mut [u8]) -> usize
     requires { ⌜ capacity ≤ length (now room) ⌝ }
@@ -141,6 +153,9 @@ fn work_reply(work: &[u8], settings: &[u8], input: &[u8], room: &mut [u8]) -> us
 {
     if same(work, b"per") {
         return per_reply(settings, input, room);
+    }
+    if same(work, b"der") {
+        return der_reply(settings, input, room);
     }
     if same(work, b"unper") {
         return unper_reply(settings, input, room);
