@@ -4,7 +4,6 @@ use mathlib.Core.Bool.{cond}
 use mathlib.Core.List.{List, _∷_, _++_}
 use lib.Dec.{eqb}
 use lib.ListN.{take}
-use Rattle.answers.specs.declared.outcomes.Outcome.{Outcome}
 use Rattle.kinds.specs.Kinds.{Option, some, none}
 use Rattle.lists.specs.Octets.{bytes}
 use Rattle.lines.specs.declared.hex.Hex.{Hex}
@@ -19,9 +18,7 @@ abbrev pub countIn : Hex → ℕ
 countIn (Hex.Length n) = n
 countIn Hex.Bad = 0
 
--- The reply to an outcome whose result stands at the front of a buffer.
-unfoldable pub replyTo : (List ℕ → List ℕ) → Outcome → List ℕ → List ℕ
-replyTo show outcome buffer =
-    cond (eqb (outcome .number) 0)
-    (bytes "0 " ++ show (take (outcome .length .count) buffer) ++ bytes "\n")
-    ((48 + outcome .number) ∷ bytes "\n")
+-- The reply to a number, and after 0 to so many octets at the front of a buffer.
+unfoldable pub replyTo : (List ℕ → List ℕ) → ℕ → ℕ → List ℕ → List ℕ
+replyTo show number count buffer =
+    cond (eqb number 0) (bytes "0 " ++ show (take count buffer) ++ bytes "\n") ((48 + number) ∷ bytes "\n")

@@ -13,7 +13,6 @@ ghost use Rattle.lines.specs.Steps.{replyTo};
 use crate::hex::Hex;
 use crate::hex::put_hex;
 use crate::hex::read_hex;
-use answers::Outcome;
 use codec::der_encode;
 use codec::per_decode;
 use codec::per_encode;
@@ -69,33 +68,31 @@ fn put_octets(room: &mut [u8], at: usize, octets: &[u8]) -> usize
     place
 }
 
-// The reply to an outcome whose result, in the buffer, is shown in hex.
-fn hex_reply(outcome: Outcome, buffer: &[u8], room: &mut [u8]) -> usize
-    requires { ⌜ (outcome .number ≤ 7) × (outcome .length .count ≤ 136) × (length (now buffer) ≡ 136) × (capacity ≤ length (now room)) ⌝ }
-    ensures { λ r. ⌜ Put (now (room .entry)) (now (room .exit)) 0 (replyTo toHex outcome (now (buffer .entry))) r ⌝ }
+// The reply to a number, and after 0 to so many octets of the buffer, in hex.
+fn hex_reply(number: u32, count: usize, buffer: &[u8], room: &mut [u8]) -> usize
+    requires { ⌜ (number ≤ 7) × (count ≤ 136) × (length (now buffer) ≡ 136) × (capacity ≤ length (now room)) ⌝ }
+    ensures { λ r. ⌜ Put (now (room .entry)) (now (room .exit)) 0 (replyTo toHex number count (now (buffer .entry))) r ⌝ }
     ensures { λ r. ⌜ r ≤ capacity ⌝ }
 {
-    if outcome.number != 0 {
-        return number_reply(outcome.number, room);
+    if number != 0 {
+        return number_reply(number, room);
     }
-    let length = outcome.length.count;
     let start = put_octets(room, 0, b"0 ");
-    let end = put_hex(room, start, &buffer[..length]);
+    let end = put_hex(room, start, &buffer[..count]);
     put_octets(room, end, b"\n")
 }
 
-// The reply to an outcome whose result, in the buffer, is a text.
-fn text_reply(outcome: Outcome, buffer: &[u8], room: &mut [u8]) -> usize
-    requires { ⌜ (outcome .number ≤ 7) × (outcome .length .count ≤ 136) × (length (now buffer) ≡ 136) × (capacity ≤ length (now room)) ⌝ }
-    ensures { λ r. ⌜ Put (now (room .entry)) (now (room .exit)) 0 (replyTo asText outcome (now (buffer .entry))) r ⌝ }
+// The reply to a number, and after 0 to the text of so many octets of the buffer.
+fn text_reply(number: u32, count: usize, buffer: &[u8], room: &mut [u8]) -> usize
+    requires { ⌜ (number ≤ 7) × (count ≤ 136) × (length (now buffer) ≡ 136) × (capacity ≤ length (now room)) ⌝ }
+    ensures { λ r. ⌜ Put (now (room .entry)) (now (room .exit)) 0 (replyTo asText number count (now (buffer .entry))) r ⌝ }
     ensures { λ r. ⌜ r ≤ capacity ⌝ }
 {
-    if outcome.number != 0 {
-        return number_reply(outcome.number, room);
+    if number != 0 {
+        return number_reply(number, room);
     }
-    let length = outcome.length.count;
     let start = put_octets(room, 0, b"0 ");
-    let end = put_octets(room, start, &buffer[..length]);
+    let end = put_octets(room, start, &buffer[..count]);
     put_octets(room, end, b"\n")
 }
 
@@ -107,7 +104,7 @@ fn per_reply(settings: &[u8], text: &[u8], room: &mut [u8]) -> usize
 {
     let mut buffer = [0u8; TEXT_CAPACITY];
     let outcome = per_encode(settings, Limits::NONE, text, &mut buffer);
-    hex_reply(outcome, &buffer, room)
+    hex_reply(outcome.number, outcome.length.count, &buffer, room)
 }
 
 // The reply to `der`.
@@ -118,7 +115,7 @@ fn der_reply(settings: &[u8], text: &[u8], room: &mut [u8]) -> usize
 {
     let mut buffer = [0u8; TEXT_CAPACITY];
     let outcome = der_encode(settings, Limits::NONE, text, &mut buffer);
-    hex_reply(outcome, &buffer, room)
+    hex_reply(outcome.number, outcome.length.count, &buffer, room)
 }
 
 // The reply to octets in unaligned PER.
@@ -129,7 +126,7 @@ fn octets_reply(settings: &[u8], octets: &[u8], room: &mut [u8]) -> usize
 {
     let mut buffer = [0u8; TEXT_CAPACITY];
     let outcome = per_decode(settings, Limits::NONE, octets, &mut buffer);
-    text_reply(outcome, &buffer, room)
+    text_reply(outcome.number, outcome.length.count, &buffer, room)
 }
 
 // The reply to `unper`.

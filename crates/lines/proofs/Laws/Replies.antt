@@ -11,7 +11,7 @@ use lib.Seq.{sets, drop-cons, take-all, take-append-seam}
 use borrow.Author.Tests.{eq-eqb, ne-eqb, le-leb, lt-leb, lt-ltb, le-ltb}
 use Rattle.answers.specs.declared.counts.Bits.{Bits}
 use Rattle.answers.specs.declared.outcomes.Outcome.{Outcome}
-use Rattle.answers.specs.Outcomes.{Answer, done, refused, success, outcomeOf, roomOf}
+use Rattle.answers.specs.Outcomes.{Answer, done, refused, outcomeOf, roomOf}
 use Rattle.answers.specs.Refusals.{numberOf}
 use Rattle.lists.specs.Lists.{spanTo}
 use Rattle.lists.specs.Octets.{bytes}
@@ -29,13 +29,12 @@ octet-put room octets place i h = rw (add-one place, add-one i, drop-cons octets
 
 -- ---- the reply to an outcome
 
-module _ (show : List ℕ → List ℕ) (outcome : Outcome) (buffer : List ℕ) where
-  pub reply-refused : (outcome .number ≡ 0 → ⊥) → replyTo show outcome buffer ≡ (48 + outcome .number) ∷ bytes "\n"
+module _ (show : List ℕ → List ℕ) (number count : ℕ) (buffer : List ℕ) where
+  pub reply-refused : (number ≡ 0 → ⊥) → replyTo show number count buffer ≡ (48 + number) ∷ bytes "\n"
   unfolding replyTo
   reply-refused h = rw (ne-eqb _ _ h)
 
-  pub reply-done : outcome .number ≡ 0 →
-      replyTo show outcome buffer ≡ bytes "0 " ++ show (take (outcome .length .count) buffer) ++ bytes "\n"
+  pub reply-done : number ≡ 0 → replyTo show number count buffer ≡ bytes "0 " ++ show (take count buffer) ++ bytes "\n"
   unfolding replyTo
   reply-done h = rw (eq-eqb _ _ h)
 
@@ -54,22 +53,26 @@ length-most answer room e = rw e (go (told answer room)) where
   go (given result bits a h o) = rw o h
   go (withheld why o r) = rw o (omega arith)
 
+-- The reply to an outcome and what it leaves in a buffer.
+abbrev replyOn : (List ℕ → List ℕ) → Outcome → List ℕ → List ℕ
+replyOn show outcome left = replyTo show (outcome .number) (outcome .length .count) left
+
 -- An answer whose result has its place in the buffer is shown.
 reply-shown : (show : List ℕ → List ℕ) (answer : Answer) (buffer : List ℕ) →
     ((result : List ℕ) (bits : Bits) → answer ≡ done result bits → length result ≤ length buffer) →
-    replyTo show (outcomeOf answer buffer) (roomOf answer buffer) ≡ shown show answer
+    replyOn show (outcomeOf answer buffer) (roomOf answer buffer) ≡ shown show answer
 reply-shown show (refused why) buffer most =
-    rw (none why buffer .0) (reply-refused show _ _ (λ z. omega (arith, number-range why)))
+    rw (none why buffer .0) (reply-refused show _ _ _ (λ z. omega (arith, number-range why)))
 reply-shown show (done result bits) buffer most =
     let k = enough result buffer bits (most result bits refl) in
     rw (k .0, k .1)
-    (reply-done show (success result bits) _ refl
+    (reply-done show 0 (length result) _ refl
     ∙ ap (λ (l : List ℕ). bytes "0 " ++ show l ++ bytes "\n") (take-append-seam result (drop (length result) buffer)))
 
 pub answer-put : (show : List ℕ → List ℕ) (answer : Answer) (buffer : List ℕ) {left room m : List ℕ} {outcome : Outcome} {r : ℕ} →
     ((result : List ℕ) (bits : Bits) → answer ≡ done result bits → length result ≤ length buffer) →
     outcome ≡ outcomeOf answer buffer → left ≡ roomOf answer buffer →
-    Put room m 0 (replyTo show outcome left) r → Put room m 0 (shown show answer) r
+    Put room m 0 (replyTo show (outcome .number) (outcome .length .count) left) r → Put room m 0 (shown show answer) r
 answer-put show answer buffer most e f p = rw (← reply-shown show answer buffer most, ← e, ← f) p
 
 -- ---- the semicolons
