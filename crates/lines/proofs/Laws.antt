@@ -1,0 +1,4 @@
+-- The laws of replies.
+pub mod Hex
+pub mod Replies
+pub mod Checked

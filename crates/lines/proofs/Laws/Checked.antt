@@ -1,0 +1,82 @@
+-- Checked lines: the paper's three and what they print, and a line for each cause of `?`.
+use mathlib.Core.Path.{_≡_, refl}
+use mathlib.Core.Bool.{_&&_, Bool, true}
+use mathlib.Core.List.{_∷_, _++_, List, []}
+use Prim.Native.Nat.{ℕ}
+use Prim.Native.String.{String}
+use lib.ListN.{replicate}
+use Rattle.calendar.specs.Dates.{upTo}
+use Rattle.calendar.specs.Integers.{divisible, quotient, remainder}
+use Rattle.calendar.specs.Months.{monthLengthOf}
+use Rattle.calendar.specs.Weeks.{daysOfYears, newYear, weekOf, weekOneOf, weeksOf}
+use Rattle.calendar.specs.Years.{astronomicalOf, leapOf, yearAt, yearLengthOf}
+use Rattle.texts.specs.Dates.{getAfter, getDate, getWeek, putAfter, putDate}
+use Rattle.texts.specs.Digits.{getDigits, getField, leading, putDigits}
+use Rattle.texts.specs.Texts.{getValue, readUpTo, render}
+use Rattle.texts.specs.Times.{getAfterHours, getClock, getDifference, getFraction, getMinutes, getTime, getZone, putClock, putFraction, putTime, putZone}
+use Rattle.texts.specs.Years.{getSigned, getYear, signedFits, sizeIn, yearDigits, yearText}
+use Rattle.lists.specs.Lists.{addPair, addPairs, complete, completed, datedList, listOf, spanTo, splitOn, timedList}
+use Rattle.lists.specs.Octets.{bytes, eqList}
+use Rattle.lists.specs.Words.{fractionNumber, pairOf, placeFrom}
+use Rattle.types.specs.Numbers.{clockAt, dateAt, zoneAt}
+use Rattle.settings.specs.TypeTexts.{allOf, distinct, equalLists, joined, listType, listsOf, member, oneRow, sameButYear, timeAt, typeOf, usable, yearFamily, yearsOf}
+use Rattle.types.specs.Types.{limitedTo, placed, wellFormed}
+use Rattle.values.specs.Existence.{existsClock, existsDifference, existsFraction, existsTime}
+use Rattle.values.specs.Forms.{sameDateForm, sameTimeForm}
+use Rattle.values.specs.Holding.{admitsDate, admitsTime, between, inType}
+use Rattle.fields.specs.Bits.{bitsOf, numberIn, octetsOf, packed, unpacked}
+use Rattle.fields.specs.Integers.{fewest, fromTwos, half, twos, within}
+use Rattle.fields.specs.Fields.{binaryDigits, bitCount, fieldBits, fieldWidth, layout, width}
+use Rattle.fields.specs.Readings.{_>>=_, aFree, aRanged, readBits, readFree, readRanged, require, run}
+use Rattle.rows.specs.Fields.{choiceOfYear, clockFields, dateFields, dayFields, differenceFields, fieldsOf, fractionFields, hoursField, longFraction, otherYear, timeFields, yearFields, zoneFields}
+use Rattle.rows.specs.Readings.{differenceAt, natural, readChoice, readClock, readDate, readDay, readExtended, readFraction, readMinutes, readOctets, readTime, readValue, readYear, readZone}
+use Rattle.kinds.specs.Coding.{compared, decoded, encoded, judgedAs, judgedOctets, judgedText}
+use Rattle.per.specs.Per.{countOf, encodingOf}
+use Rattle.answers.specs.Counts.{octetsFor}
+use Rattle.codec.specs.Coding.{derEncode, perDecode, perEncode}
+use Rattle.der.specs.Elements.{contentsOf, element, elementOf, without}
+use Rattle.lines.specs.Lines.{cutAgain, fromHex, hexDigit, hexNumber, replyOf, toHex, worked}
+
+-- a line with so many zeros behind it, and its reply
+data Row : Type 0 where
+  line : String → ℕ → String → Row
+
+rows : List Row
+rows =
+    -- "Input: .. Whole output: .."
+    line "per;DATE;2006-06-13" 0 "0 0558" ∷
+    line "der;DATE;2006-06-13" 0 "0 1F1F083230303630363133" ∷
+    line "per;DATE;2006-02-29" 0 "4" ∷
+    -- hex input, of either case
+    line "unper;DATE;0558" 0 "0 2006-06-13" ∷
+    line "unper;DATE;bfC780" 0 "0 2004-02-29" ∷
+    line "unper;DATE;" 0 "3" ∷
+    -- "fewer than two semicolons"; a third is the input's
+    line "" 0 "?" ∷
+    line "per" 0 "?" ∷
+    line "per;DATE" 0 "?" ∷
+    line "per;DATE;" 0 "3" ∷
+    line "per;DATE;2006-06-13;" 0 "3" ∷
+    line "unper;DATE;0558;" 0 "?" ∷
+    -- "an unknown work"
+    line "PER;DATE;2006-06-13" 0 "?" ∷
+    line "perr;DATE;2006-06-13" 0 "?" ∷
+    line ";DATE;2006-06-13" 0 "?" ∷
+    -- "hex input that isn't whole pairs of hex digits"
+    line "unper;DATE;055" 0 "?" ∷
+    line "unper;DATE;055G" 0 "?" ∷
+    line "unper;DATE;05 58" 0 "?" ∷
+    -- "or more than 1,024 octets"
+    line "per;DATE;" 1015 "3" ∷
+    line "per;DATE;" 1016 "?" ∷
+    []
+
+allRight : List Row → Bool
+allRight [] = true
+allRight (line text zeros reply ∷ l) =
+    eqList (replyOf (bytes text ++ replicate zeros 48)) (bytes reply ++ bytes "\n") && allRight l
+
+-- Each line gives its reply, newline included.
+checked-lines : allRight rows ≡ true
+unfolding rows allRight upTo quotient remainder divisible monthLengthOf daysOfYears newYear weekOf weekOneOf weeksOf astronomicalOf yearAt leapOf yearLengthOf putAfter putDate getWeek getAfter getDate putDigits getDigits getField leading render getValue readUpTo putClock getAfterHours getClock putFraction getFraction putZone getMinutes getDifference getZone putTime getTime sizeIn yearDigits yearText signedFits getSigned getYear splitOn addPair addPairs datedList timedList complete completed listOf eqList placeFrom fractionNumber pairOf dateAt clockAt zoneAt listsOf sameButYear yearFamily oneRow equalLists allOf distinct usable member yearsOf timeAt listType joined typeOf placed limitedTo wellFormed existsClock existsFraction existsDifference existsTime sameDateForm sameTimeForm between admitsDate admitsTime inType bitsOf numberIn packed octetsOf unpacked half within fewest twos fromTwos binaryDigits width fieldBits layout fieldWidth bitCount _>>=_ aRanged aFree require readBits readRanged readFree run otherYear choiceOfYear yearFields dayFields dateFields clockFields longFraction fractionFields hoursField differenceFields zoneFields timeFields fieldsOf readChoice readYear readDay readDate readClock natural readExtended readFraction readMinutes differenceAt readZone readTime readValue readOctets judgedAs judgedText encoded compared judgedOctets decoded encodingOf countOf octetsFor spanTo perEncode perDecode derEncode without contentsOf element elementOf hexDigit toHex hexNumber fromHex worked cutAgain replyOf
+checked-lines = refl

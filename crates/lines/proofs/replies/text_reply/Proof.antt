@@ -1,0 +1,63 @@
+-- `replies::text_reply` meets its contract: the number alone, or 0 and the result.
+use mathlib.Core.Path.{_≡_, refl, sym}
+use native.Mathlib.Omega.{arith}
+use lib.ListN.{length, take}
+use lib.Seq.{length-take-le}
+use Rattle.lines.specs.Lines.{asText}
+use Rattle.lines.proofs.Laws.Replies.{reply-refused, reply-done}
+use Rattle.printing.proofs.Laws.Stores.{put-then}
+use borrow.Author.Needs.{needs}
+use Rattle.lines.proofs.replies.text_reply.Statement.{statement}
+use Rattle.lines.proofs.replies.text_reply.Tie as tie
+
+number-reply-requires : tie.Need-number-reply-requires
+number-reply-requires c κs = (c .before .before .before .before .pre .0, c .before .before .before .before .pre .3)
+
+same-length : tie.Need-same-length
+same-length c = search needs
+
+returns : tie.Need-returns
+returns c = rw (reply-refused asText (c .before .before .before .before .before .before .before .args .number) (c .before .before .before .before .before .before .before .args .count) (c .before .before .before .before .before .before .before .args .buffer .now) (c .before .before .before .before .if1 .taken)) (c .before .before .number-reply .ensures)
+
+slice-aggregate-put-octets : tie.Need-slice-aggregate-put-octets
+slice-aggregate-put-octets c = refl
+
+put-octets-requires : tie.Need-put-octets-requires
+put-octets-requires c κs = omega arith
+
+slice-aggregate-put-octets-2 : tie.Need-slice-aggregate-put-octets-2
+slice-aggregate-put-octets-2 c = sym (length-take-le _ _ (omega arith))
+
+put-octets-requires-2 : tie.Need-put-octets-requires-2
+put-octets-requires-2 c κs = let t : length (take (c .before .before .before .before .before .before .before .before .before .before .args .count) (c .before .before .before .before .before .before .before .before .before .before .args .buffer .now)) ≡ c .before .before .before .before .before .before .before .before .before .before .args .count = length-take-le _ _ (omega arith) in omega arith
+
+slice-aggregate-put-octets-3 : tie.Need-slice-aggregate-put-octets-3
+slice-aggregate-put-octets-3 c = refl
+
+put-octets-requires-3 : tie.Need-put-octets-requires-3
+put-octets-requires-3 c κs = let t : length (take (c .before .before .before .before .before .before .before .before .before .before .before .before .before .before .before .args .count) (c .before .before .before .before .before .before .before .before .before .before .before .before .before .before .before .args .buffer .now)) ≡ c .before .before .before .before .before .before .before .before .before .before .before .before .before .before .before .args .count = length-take-le _ _ (omega arith) in omega arith
+
+same-length-2 : tie.Need-same-length-2
+same-length-2 c = search needs
+
+returns-2 : tie.Need-returns-2
+returns-2 c =
+    let t : length (take (c .before .before .before .before .before .before .before .before .before .before .before .before .before .before .before .before .before .before .args .count) (c .before .before .before .before .before .before .before .before .before .before .before .before .before .before .before .before .before .before .args .buffer .now)) ≡ c .before .before .before .before .before .before .before .before .before .before .before .before .before .before .before .before .before .before .args .count = length-take-le _ _ (omega arith) in
+    rw (reply-done asText (c .before .before .before .before .before .before .before .before .before .before .before .before .before .before .before .before .before .before .args .number) (c .before .before .before .before .before .before .before .before .before .before .before .before .before .before .before .before .before .before .args .count) (c .before .before .before .before .before .before .before .before .before .before .before .before .before .before .before .before .before .before .args .buffer .now) (c .before .before .before .before .before .before .before .before .before .before .before .before .before .before .before .if1 .left))
+    (put-then (c .before .before .before .before .before .before .before .before .before .before .before .before .put-octets .ensures .0) (put-then (c .before .before .before .before .before .before .before .put-octets2 .ensures .0) (c .before .before .put-octets3 .ensures .0)), omega arith)
+
+pub text-reply-spec : {M : Type 1} → statement M
+text-reply-spec =
+    tie.close
+    (tie.spec
+    number-reply-requires
+    same-length
+    returns
+    slice-aggregate-put-octets
+    put-octets-requires
+    slice-aggregate-put-octets-2
+    put-octets-requires-2
+    slice-aggregate-put-octets-3
+    put-octets-requires-3
+    same-length-2
+    returns-2)

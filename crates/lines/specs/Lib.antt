@@ -1,0 +1,4 @@
+-- What a reader must believe of the replies to lines.
+pub mod Lines
+pub mod Rooms
+pub mod Steps
