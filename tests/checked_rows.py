@@ -1,6 +1,6 @@
 """Compares each row of the proved tables with the independent reference: the calendar's years and dates, the
-types and their rows, the texts under types, unaligned PER and DER. Prints the first row that differs and exits 1, or
-prints nothing."""
+types and their rows, the texts under types, unaligned PER, DER and the lines. Prints the first row that differs and exits
+1, or prints nothing."""
 
 import re
 import sys
@@ -8,6 +8,7 @@ from pathlib import Path
 
 ROOT = Path(__file__).resolve().parent.parent
 sys.path.insert(0, str(ROOT / "reference"))
+import convert_lines  # noqa: E402
 import der  # noqa: E402
 import gregorian  # noqa: E402
 import per  # noqa: E402
@@ -50,6 +51,9 @@ ROOM = 64
 
 DER = ROOT / "crates/der/proofs/Laws/Checked.antt"
 ELEMENT = re.compile(r'^ +value "([^"]*)" "([^"]*)" (\d) "([^"]*)" ∷', re.M)
+
+LINES = ROOT / "crates/lines/proofs/Laws/Checked.antt"
+LINE = re.compile(r'^ +line "([^"]*)" (\d+) "([^"]*)" ∷', re.M)
 
 
 def rows(table, *patterns):
@@ -154,6 +158,13 @@ def check_der():
         expect(DER, f"{type_text} {text}", said, der.encode(type_text.encode(), settings.NO_LIMITS, text.encode(), ROOM))
 
 
+def check_lines():
+    """The reply to each line, with so many zeros behind it."""
+    (found,) = rows(LINES, LINE)
+    for text, zeros, said in found:
+        expect(LINES, text, said.encode(), convert_lines.reply(text.encode() + b"0" * int(zeros)))
+
+
 if __name__ == "__main__":
     check_calendar()
     check_types()
@@ -161,3 +172,4 @@ if __name__ == "__main__":
     check_times()
     check_per()
     check_der()
+    check_lines()
