@@ -4,6 +4,7 @@ ghost use mathlib.Core.List.{_∷_};
 ghost use Prim.Native.Nat.{_+_, _*_, _<_, _≤_};
 ghost use lib.ListN.{length};
 ghost use Rattle.lists.specs.Octets.{bytes};
+ghost use Rattle.printing.specs.Canonical.{capacity as textCapacity};
 ghost use Rattle.printing.specs.Stores.{Put};
 ghost use Rattle.types.specs.Types.{noLimits};
 ghost use Rattle.codec.specs.Coding.{perEncode, perDecode, derEncode};
@@ -70,7 +71,7 @@ fn put_octets(room: &mut [u8], at: usize, octets: &[u8]) -> usize
 
 // The reply to a number, and after 0 to so many octets of the buffer, in hex.
 fn hex_reply(number: u32, count: usize, buffer: &[u8], room: &mut [u8]) -> usize
-    requires { ⌜ (number ≤ 7) × (count ≤ 136) × (length (now buffer) ≡ 136) × (capacity ≤ length (now room)) ⌝ }
+    requires { ⌜ (number ≤ 7) × (count ≤ textCapacity) × (length (now buffer) ≡ textCapacity) × (capacity ≤ length (now room)) ⌝ }
     ensures { λ r. ⌜ Put (now (room .entry)) (now (room .exit)) 0 (replyTo toHex number count (now (buffer .entry))) r ⌝ }
     ensures { λ r. ⌜ r ≤ capacity ⌝ }
 {
@@ -84,7 +85,7 @@ fn hex_reply(number: u32, count: usize, buffer: &[u8], room: &mut [u8]) -> usize
 
 // The reply to a number, and after 0 to the text of so many octets of the buffer.
 fn text_reply(number: u32, count: usize, buffer: &[u8], room: &mut [u8]) -> usize
-    requires { ⌜ (number ≤ 7) × (count ≤ 136) × (length (now buffer) ≡ 136) × (capacity ≤ length (now room)) ⌝ }
+    requires { ⌜ (number ≤ 7) × (count ≤ textCapacity) × (length (now buffer) ≡ textCapacity) × (capacity ≤ length (now room)) ⌝ }
     ensures { λ r. ⌜ Put (now (room .entry)) (now (room .exit)) 0 (replyTo asText number count (now (buffer .entry))) r ⌝ }
     ensures { λ r. ⌜ r ≤ capacity ⌝ }
 {
