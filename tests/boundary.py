@@ -8,7 +8,7 @@ import tempfile
 from pathlib import Path
 
 DEFINED = re.compile(r"^\s*(?:(?:pub|unfoldable|abbrev) )*(\S+) : ", re.M)
-USED = re.compile(r"^\s*(?:pub )?use Rattle\.calendar\.\S*\.\{([^}]*)\}", re.M)
+USED = re.compile(r"^\s*(?:pub )?use (\S+)\.\{([^}]*)\}", re.M)
 OPENED = re.compile(r"^\s*unfolding (.*)$", re.M)
 
 
@@ -18,9 +18,10 @@ def defined(crate):
     return {name for file in files for name in DEFINED.findall(file.read_text("utf-8"))}
 
 
-def imported(text):
-    """The names that a file brings in from the calendar, as it calls them."""
-    entries = [entry.strip() for names in USED.findall(text) for entry in names.split(",")]
+def imported(text, calendar):
+    """The names that a file brings in from the calendar, as it calls them, or from elsewhere."""
+    uses = [names for module, names in USED.findall(text) if module.startswith("Rattle.calendar.") == calendar]
+    entries = [entry.strip() for names in uses for entry in names.split(",")]
     return {entry.split(" as ")[-1].strip() for entry in entries if entry}
 
 
@@ -35,10 +36,10 @@ def places(root):
             if file.name == "Checked.antt":
                 continue
             text = file.read_text("utf-8")
-            closed = foreign | imported(text)
+            closed = foreign - imported(text, False) | imported(text, True)
             for match in OPENED.finditer(text):
                 for word in match.group(1).split():
-                    if word in closed or word.split(".")[-1] in foreign:
+                    if word in closed or "." in word and word.split(".")[-1] in foreign:
                         line = text.count("\n", 0, match.start()) + 1
                         yield f"{file.relative_to(root)}:{line}: opens the calendar's {word}"
 
@@ -59,6 +60,7 @@ def self_test():
         write(proofs / "Worse.antt", "law : A\nunfolding Y.leapOf\nlaw = refl\n")
         write(proofs / "Checked.antt", use + "table : A\nunfolding leap\ntable = refl\n")
         write(proofs / "Good.antt", use + "law : leap ≡ leap\nunfolding own\nlaw = refl\n")
+        write(proofs / "Other.antt", "use Rattle.other.specs.A.{leapOf}\nlaw : A\nunfolding leapOf\nlaw = refl\n")
         found = [place.split(":")[0] for place in places(root)]
         if found != ["crates/upper/proofs/Bad.antt", "crates/upper/proofs/Worse.antt"]:
             sys.exit(f"boundary.py does not find what it should: {found}")
