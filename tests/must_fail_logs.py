@@ -1,7 +1,8 @@
 """Reads the log of each must-fail edit that `rt ci` tried. An edit that only made a proof file unfit for the
 code shows nothing: its first error is one of the messages below, and it is printed, with exit 1. A file of several
-wrong programs says of each at which proof it is refused, and each of these proofs must have an error that is none of
-those messages. Otherwise nothing is printed. Whether any other error is a fact that fails is for a reader to see."""
+wrong programs says of each at which proof it is refused, and at which need of it where two share a proof, and each of these
+must have an error that is none of those messages. Otherwise nothing is printed. Whether any other error is a fact that
+fails is for a reader to see."""
 
 import re
 import sys
@@ -12,7 +13,7 @@ UNFIT = re.compile(
     r"that can be named from here|is not in scope|but this has type `tie\.Need-|was not admitted|has no field|does not parse"
 )
 ERROR = re.compile(r"(\S+\.antt):\d+:\d+: error")
-PART = re.compile(r"^# (\w+): refused at (\S+)$", re.M)
+PART = re.compile(r"^# (\w+): refused at (\S+)(?: (\S+))?$", re.M)
 
 
 def errors(log):
@@ -31,11 +32,14 @@ def faults(edit, log):
     parts = PART.findall(edit)
     if not parts and (not found or UNFIT.search(found[0][1])):
         yield f"only unfits a proof file: {(found[0][1] if found else 'no error')[:300]}"
-    if parts and len(parts) != len({path for _, path in parts}):
-        yield "two wrong programs are refused at one proof"
-    for name, path in parts:
-        if not any(file.endswith("/" + path) and not UNFIT.search(error) for file, error in found):
-            yield f"{name} is not refused at {path}"
+    whole = {path for _, path, need in parts if not need}
+    if len(parts) != len({part[1:] for part in parts}) or any(need and path in whole for _, path, need in parts):
+        yield "two wrong programs are refused at one place"
+    for name, path, need in parts:
+        named = f"error: `{need}`:" if need else "error: "
+        at = [error for file, error in found if file.endswith("/" + path) and named in error]
+        if all(UNFIT.search(error) for error in at):
+            yield f"{name} is not refused at {path} {need}"
 
 
 def self_test():
@@ -43,7 +47,11 @@ def self_test():
     fact = "/x/proofs/a/Proof.antt:3:1: error: `returns`: the goal fails\n  at 0\n"
     unfit = "/x/proofs/b/Proof.antt:3:1: error: `f-spec`: `close` was not admitted\nfn f: not proved\n"
     one, two = "# a: refused at proofs/a/Proof.antt\n", "# b: refused at proofs/b/Proof.antt\n"
-    cases = (("", fact, 0), ("", unfit, 1), ("", "", 1), (one, unfit + fact, 0), (one + two, fact + unfit, 1), (one + one, fact, 1))
+    need, other = "# c: refused at proofs/a/Proof.antt returns\n", "# d: refused at proofs/a/Proof.antt returns-2\n"
+    cases = (
+        ("", fact, 0), ("", unfit, 1), ("", "", 1), (one, unfit + fact, 0), (one + two, fact + unfit, 1),
+        (one + one, fact, 1), (one + need, fact, 1), (need, fact, 0), (need + other, fact, 1), (need + need, fact, 1),
+    )
     for edit, log, count in cases:
         if len(list(faults(edit, log))) != count:
             sys.exit(f"must_fail_logs.py does not find what it should: {edit!r} {log!r}")
