@@ -1,4 +1,5 @@
 -- The laws of DER.
 pub mod Contents
+pub mod Readings
 pub mod Der
 pub mod Checked

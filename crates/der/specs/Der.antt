@@ -8,7 +8,7 @@ use Rattle.texts.specs.declared.values.Value.{Value}
 use Rattle.types.specs.declared.types.Name.{Name}
 use Rattle.types.specs.declared.types.«Type».{«Type» as Ty}
 use Rattle.kinds.specs.Kinds.{Kind}
-use Rattle.kinds.specs.Coding.{encoded}
+use Rattle.kinds.specs.Coding.{encoded, decoded}
 use Rattle.encodings.specs.Encodings.{encodedBy}
 use Rattle.der.specs.Elements.{elementOf}
 use Rattle.der.specs.Readings.{readElement}
@@ -25,6 +25,10 @@ noBits = record { count = 0 }
 abbrev pub der : Kind Ty Form Name Value
 der = encodedBy nameOf elementOf (λ name v. noBits) readElement
 
--- What encoding a text answers.
+-- What encoding a text answers, ..
 abbrev pub derEncoded : Ty → List ℕ → Answer
 derEncoded t text = encoded der t text
+
+-- .. and what decoding octets does.
+abbrev pub derDecoded : Ty → List ℕ → Answer
+derDecoded t octets = decoded der t octets

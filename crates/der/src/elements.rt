@@ -84,7 +84,7 @@ fn put_octet(room: &mut [u8], at: usize, name: Name, octet: u8) -> usize
 }
 
 // Puts the contents of a text from a place on.
-fn put_contents(room: &mut [u8], at: usize, name: Name, text: &[u8]) -> usize
+pub(crate) fn put_contents(room: &mut [u8], at: usize, name: Name, text: &[u8]) -> usize
     requires { ⌜ at + length (contentsOf name (now text)) ≤ length (now room) ⌝ }
     ensures { λ r. ⌜ Put (now (room .entry)) (now (room .exit)) at (contentsOf name (now (text .entry))) r ⌝ }
 {
@@ -124,7 +124,7 @@ fn put_tag(room: &mut [u8], name: Name) -> usize
 }
 
 // How many octets a tag has.
-fn tag_length(name: Name) -> usize
+pub(crate) fn tag_length(name: Name) -> usize
     ensures { λ r. ⌜ r ≡ length (tagOf name) ⌝ }
 {
     match name {
@@ -146,7 +146,7 @@ fn put_element(room: &mut [u8], name: Name, count: u8, text: &[u8]) -> usize
 }
 
 // Puts the element of a canonical text at the front of the room, or refuses where the room is shorter.
-fn write_element(name: Name, text: &[u8], room: &mut [u8]) -> Outcome
+pub(crate) fn write_element(name: Name, text: &[u8], room: &mut [u8]) -> Outcome
     requires { ⌜ length (now text) ≤ 127 ⌝ }
     ensures { λ r. ⌜ r ≡ outcomeOf (done (element name (contentsOf name (now (text .entry)))) noBits) (now (room .entry)) ⌝ }
     ensures { λ _. ⌜ now (room .exit) ≡ roomOf (done (element name (contentsOf name (now (text .entry)))) noBits) (now (room .entry)) ⌝ }

@@ -16,7 +16,7 @@ pub enum Admission {
 }
 
 // A value of the type's form: whether it exists, and whether it is in the type.
-fn judge(t: Type, value: Value) -> Admission
+pub fn judge(t: Type, value: Value) -> Admission
     ensures { λ r. ⌜ r ≡ judged t value ⌝ }
 {
     if !value_exists(value) {

@@ -8,6 +8,7 @@ pub mod written;
 
 pub use admission::Admission;
 pub use admission::admit;
+pub use admission::judge;
 pub use answers::Bits;
 pub use answers::Octets;
 pub use answers::Outcome;

@@ -8,8 +8,10 @@ use lib.Dec.{eqb, leb}
 use lib.ListN.{length, take, drop, length-append}
 use lib.Seq.{take-all, take-at, drop-at}
 use borrow.Author.Tests.{eq-eqb, le-leb}
-use Rattle.answers.specs.Outcomes.{Answer, done}
+use Rattle.answers.specs.Outcomes.{Answer, done, outcomeOf, roomOf}
 use Rattle.answers.specs.declared.counts.Bits.{Bits}
+use Rattle.answers.specs.declared.outcomes.Outcome.{Outcome}
+use Rattle.answers.proofs.Laws.Outcomes.{enough, in-front}
 use Rattle.calendar.proofs.Laws.Bools.{both}
 use Rattle.calendar.specs.declared.dates.Date.{Date}
 use Rattle.printing.proofs.Laws.Canonical.{text-length}
@@ -28,18 +30,19 @@ use Rattle.types.specs.declared.types.Name.{Name}
 use Rattle.types.specs.declared.types.Parts.{Parts}
 use Rattle.types.specs.declared.types.TimeType.{TimeType}
 use Rattle.types.specs.declared.types.«Type».{«Type» as Ty}
-use Rattle.values.specs.Admission.{admitted}
+use Rattle.values.specs.Admission.{admitted, judged}
 use Rattle.values.specs.Existence.{existsValue}
 use Rattle.values.specs.Holding.{admits, admitsDate}
 use Rattle.values.proofs.Laws.Existing.{exists-digits}
 use Rattle.values.proofs.Laws.Holding.{in-type}
 use Rattle.lists.specs.Octets.{eqList}
 use Rattle.kinds.specs.Kinds.{Option, some, none}
+use Rattle.kinds.specs.Coding.{judgedAs}
 use Rattle.kinds.specs.Demands.{Holds, Lawful}
 use Rattle.kinds.proofs.Laws.Coding as Coding
 use Rattle.encodings.specs.Encodings.{ofText}
-use Rattle.encodings.proofs.Laws.Encodings.{answerOf, encoded-admitted, text-read}
-use Rattle.der.specs.Der.{der, derEncoded, nameOf, noBits}
+use Rattle.encodings.proofs.Laws.Encodings.{answerOf, answerWith, decoded-short, encoded-admitted, judged-as, text-read}
+use Rattle.der.specs.Der.{der, derDecoded, derEncoded, nameOf, noBits}
 use Rattle.der.specs.Elements.{contentsOf, element, elementOf, omits, without}
 use Rattle.der.specs.Readings.{allDigits, dated, digitsOnly, readContents, readElement, separated, timed}
 use Rattle.der.proofs.Laws.Contents.{date-fields, element-size, fields-all, fields-back, fields-kept, fields-length, fieldsDigits, fieldsText, time-fields, without-most, without-none}
@@ -50,6 +53,11 @@ use Rattle.der.proofs.Laws.Contents.{date-fields, element-size, fields-
 pub length-most : (name : Name) (v : Value) → existsValue v ≡ true → length (contentsOf name (textOf v)) ≤ 52
 unfolding contentsOf
 length-most name v e = let a = without-most (omits name) (textOf v) in let b = text-length v (exists-digits v e) in omega arith
+
+-- The element of a value is short: the tag, the length and the contents.
+pub element-most : (name : Name) (v : Value) → existsValue v ≡ true → length (elementOf name v) ≤ 55
+unfolding elementOf
+element-most name v e = let s = element-size name (contentsOf name (textOf v)) in let m = length-most name v e in omega arith
 
 -- ---- what is written is read
 
@@ -155,17 +163,35 @@ der-one-encoding t a b h k e = Coding.one-encoding der der-lawful t a b h k e
 pub der-encodes : (t : Ty) (v : Value) → Holds der t v → (s : Spelling) → derEncoded t (render s v) ≡ done (elementOf (t .name) v) noBits
 der-encodes t v h s = Coding.encoded-own der t (render s v) v h (text-read nameOf elementOf (λ name v. noBits) readElement t v h s)
 
--- A result is short: the tag, the length and the contents.
+-- A result is short.
 pub der-encoded-short : (t : Ty) (text result : List ℕ) (bits : Bits) → derEncoded t text ≡ done result bits → length result ≤ 55
-unfolding elementOf
 der-encoded-short t text result bits e =
     let x = Coding.encoded-only der t text result bits e in
     let q : elementOf (t .name) (x .0) ≡ result = let r = x .3 in cc in
-    let s = element-size (t .name) (contentsOf (t .name) (textOf (x .0))) in
-    let m = length-most (t .name) (x .0) (x .1 .real) in
-    rw (← q) (omega arith)
+    rw (← q) (element-most (t .name) (x .0) (x .1 .real))
+
+pub der-decoded-short : (t : Ty) (octets result : List ℕ) (bits : Bits) → derDecoded t octets ≡ done result bits → length result ≤ 52
+der-decoded-short = decoded-short nameOf elementOf (λ name v. noBits) readElement
 
 -- ---- the encoder's answer is that of an admission
 
 pub der-admitted : (t : Ty) (text : List ℕ) → derEncoded t text ≡ answerOf elementOf (λ name v. noBits) (nameOf t) (admitted t text)
 der-admitted = encoded-admitted nameOf elementOf (λ name v. noBits) readElement
+
+-- What is judged of a value is an admission.
+pub der-judged : (t : Ty) (v : Value) (answer : Answer) → judgedAs der t v answer ≡ answerWith answer (judged t v)
+der-judged = judged-as nameOf elementOf (λ name v. noBits) readElement
+
+-- The element that is written into a buffer, to be compared with.
+pub own-element : (name : Name) (v : Value) (text room own : List ℕ) (r : Outcome) → existsValue v ≡ true → text ≡ textOf v → 55 ≤ length room
+    → r ≡ outcomeOf (done (element name (contentsOf name text)) noBits) room → own ≡ roomOf (done (element name (contentsOf name text)) noBits) room
+    → (r .length .count ≤ 55) × (take (r .length .count) own ≡ elementOf name v)
+unfolding elementOf
+own-element name v text room own r x q h o m =
+    let l : length (element name (contentsOf name (textOf v))) ≤ 55 = element-most name v x in
+    let f : length (element name (contentsOf name text)) ≤ length room = rw q (omega arith) in
+    let n : r .length .count ≡ length (element name (contentsOf name text)) = ap (λ (p : Outcome). p .length .count) (o ∙ enough _ room noBits f .0) in
+    (
+      rw (n, q) l,
+      rw n (ap (take (length (element name (contentsOf name text)))) m ∙ in-front (element name (contentsOf name text)) room noBits f ∙ rw q),
+    )

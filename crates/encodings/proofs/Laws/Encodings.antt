@@ -32,6 +32,11 @@ abbrev pub answerOf : {R : Type 0} → (R → Value → List ℕ) → (R → Val
 answerOf encoding count row (Admission.Value v) = done (encoding row v) (count row v)
 answerOf encoding count row (Admission.Refused why) = refused why
 
+-- What is answered where a type holds a value, or the refusal.
+abbrev pub answerWith : Answer → Admission → Answer
+answerWith answer (Admission.Value v) = answer
+answerWith answer (Admission.Refused why) = refused why
+
 module _ {R : Type 0} (row : Ty → R) (encoding : R → Value → List ℕ) (count : R → Value → Bits) (readOctets : R → Form → List ℕ → Option Value) where
   pub held-by : (t : Ty) (v : Value) → Holds (encodedBy row encoding count readOctets) t v → holdsOf t v ≡ true
   held-by t v h = holds-both t v (h .real) (h .inside)
@@ -63,3 +68,14 @@ module _ {R : Type 0} (row : Ty → R) (encoding : R → Value → List ℕ) (co
           real false b = refl
           real true false = refl
           real true true = refl
+
+  -- what is judged of a value, as the code has it
+  pub judged-as : (t : Ty) (v : Value) (answer : Answer) → judgedAs (encodedBy row encoding count readOctets) t v answer ≡ answerWith answer (judged t v)
+  unfolding judgedAs judged
+  judged-as t v answer = go (existsValue v) (inType t v)
+    where
+      go : (a b : Bool) → cond a (cond b answer (refused Refusal.Membership)) (refused Refusal.Existence)
+          ≡ answerWith answer (cond a (cond b (Admission.Value v) (Admission.Refused Refusal.Membership)) (Admission.Refused Refusal.Existence))
+      go false b = refl
+      go true false = refl
+      go true true = refl

@@ -141,7 +141,7 @@ module _ (t : Ty) (v : Value) (h : holdsOf t v ≡ true) where
   unfolding admitted judged
   held-admitted w s = let p = held t v h in rw (w, held-read s, p .0, p .1)
 
-judged-held : (t : Ty) (w v : Value) → judged t w ≡ Admission.Value v → (holdsOf t v ≡ true) × (w ≡ v)
+pub judged-held : (t : Ty) (w v : Value) → judged t w ≡ Admission.Value v → (holdsOf t v ≡ true) × (w ≡ v)
 unfolding judged
 judged-held t w v = go (existsValue w) refl (inType t w) refl where
   go : (a : Bool) → existsValue w ≡ a → (b : Bool) → inType t w ≡ b →

@@ -1,0 +1,90 @@
+-- `decoding::decode` meets its contract: a type, octets that give a value, and what is judged of it.
+use mathlib.Core.Path.{_≡_, ap, refl, sym, _∙_}
+use denote.Ref.{now}
+use borrow.Author.Tests.{not-false, not-true}
+use Rattle.answers.specs.Outcomes.{outcomeOf, roomOf}
+use Rattle.kinds.specs.Coding.{decoded, judgedOctets}
+use Rattle.encodings.specs.Encodings.{ofText}
+use Rattle.values.proofs.Laws.Existing.{judged-held}
+use Rattle.values.proofs.Laws.Holding.{held}
+use Rattle.der.proofs.Laws.Der.{der-judged}
+use borrow.Author.Needs.{needs}
+use Rattle.der.proofs.decoding.decode.Statement.{statement}
+use Rattle.der.proofs.decoding.decode.Tie as tie
+
+well-formed-requires : tie.Need-well-formed-requires
+well-formed-requires c κs = search needs
+
+refused-requires : tie.Need-refused-requires
+refused-requires c κs = search needs
+
+returns : tie.Need-returns
+unfolding decoded outcomeOf roomOf
+returns c = rw (sym (c .before .before .well-formed .ensures) ∙ not-true _ (c .before .if1 .taken)) (c .refused .ensures, refl)
+
+form-requires : tie.Need-form-requires
+form-requires c κs = search needs
+
+read-element-requires : tie.Need-read-element-requires
+read-element-requires c κs = search needs
+
+enum-known-value : tie.Need-enum-known-value
+enum-known-value c = search needs
+
+enum-told : tie.Need-enum-told
+enum-told c = search needs
+
+refused-requires-2 : tie.Need-refused-requires-2
+refused-requires-2 c κs = search needs
+
+returns-2 : tie.Need-returns-2
+unfolding decoded judgedOctets outcomeOf roomOf
+returns-2 c = rw (sym (c .before .before .before .before .before .before .well-formed .ensures) ∙ not-false _ (c .before .before .before .before .before .if1 .left), ← c .before .before .before .before .form .ensures, sym (c .before .before .before .read-element .ensures) ∙ ap ofText (c .before .enum-told .given .1)) (c .refused2 .ensures, refl)
+
+judge-requires : tie.Need-judge-requires
+judge-requires c κs = search needs
+
+enum-known-admission : tie.Need-enum-known-admission
+enum-known-admission c = search needs
+
+compare-requires : tie.Need-compare-requires
+compare-requires c κs = held _ _ (judged-held _ _ _ (sym (c .before .before .before .before .judge .ensures) ∙ c .before .before .admission .given .1) .0) .0
+
+enum-known-admission-2 : tie.Need-enum-known-admission-2
+enum-known-admission-2 c = search needs
+
+refused-requires-3 : tie.Need-refused-requires-3
+refused-requires-3 c κs = search needs
+
+same-length : tie.Need-same-length
+same-length c = search needs
+
+returns-3 : tie.Need-returns-3
+unfolding decoded judgedOctets
+returns-3 c = rw (sym (c .before .before .before .before .before .before .before .before .before .before .before .before .before .before .well-formed .ensures) ∙ not-false _ (c .before .before .before .before .before .before .before .before .before .before .before .before .before .if1 .left), ← c .before .before .before .before .before .before .before .before .before .before .before .before .form .ensures, sym (c .before .before .before .before .before .before .before .before .before .before .before .read-element .ensures) ∙ ap ofText (c .before .before .before .before .before .before .before .before .before .value .given .1), der-judged _ _ _, sym (c .before .before .before .before .before .before .before .judge .ensures) ∙ c .before .before .before .before .before .admission .given .1, judged-held _ _ _ (sym (c .before .before .before .before .before .before .before .judge .ensures) ∙ c .before .before .before .before .before .admission .given .1) .1) (c .before .before .compare .ensures)
+
+returns-4 : tie.Need-returns-4
+unfolding decoded judgedOctets outcomeOf roomOf
+returns-4 c = rw (sym (c .before .before .before .before .before .before .before .before .before .before .before .well-formed .ensures) ∙ not-false _ (c .before .before .before .before .before .before .before .before .before .before .if1 .left), ← c .before .before .before .before .before .before .before .before .before .form .ensures, sym (c .before .before .before .before .before .before .before .before .read-element .ensures) ∙ ap ofText (c .before .before .before .before .before .before .value .given .1), der-judged _ _ _, sym (c .before .before .before .before .judge .ensures) ∙ c .before .before .admission2 .given .1) (c .refused3 .ensures, refl)
+
+pub decode-spec : {M : Type 1} → statement M
+decode-spec =
+    tie.close
+    (tie.spec
+    well-formed-requires
+    refused-requires
+    returns
+    form-requires
+    read-element-requires
+    enum-known-value
+    enum-told
+    refused-requires-2
+    returns-2
+    judge-requires
+    enum-known-admission
+    compare-requires
+    enum-known-admission-2
+    refused-requires-3
+    same-length
+    returns-3
+    returns-4)

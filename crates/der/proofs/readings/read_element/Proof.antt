@@ -1,0 +1,55 @@
+-- `readings::read_element` meets its contract: the tag, and what follows it.
+use mathlib.Core.Path.{_≡_, refl, ap, sym, _∙_}
+use native.Mathlib.Omega.{arith}
+use borrow.Author.Tests.{not-false, not-true}
+use Rattle.der.specs.Readings.{readElement}
+use lib.ListN.{length}
+use Rattle.der.specs.Elements.{tagOf}
+use Rattle.der.proofs.Laws.Readings.{begins-short, rest-cut}
+use borrow.Author.Needs.{needs}
+use Rattle.der.proofs.readings.read_element.Statement.{statement}
+use Rattle.der.proofs.readings.read_element.Tie as tie
+
+has-tag-requires : tie.Need-has-tag-requires
+has-tag-requires c κs = search needs
+
+returns : tie.Need-returns
+unfolding readElement
+returns c = rw (sym (c .before .has-tag .ensures) ∙ not-true _ (c .if1 .taken))
+
+tag-length-requires : tie.Need-tag-length-requires
+tag-length-requires c κs = search needs
+
+returns-2 : tie.Need-returns-2
+unfolding readElement
+returns-2 c = rw (begins-short (c .before .before .before .before .before .args .octets .now) (tagOf (c .before .before .before .before .before .args .name)) (let e : c .before .tag-length .result ≡ length (tagOf (c .before .before .before .before .before .args .name)) = c .before .tag-length .ensures in omega (arith, c .if2 .taken)))
+
+sub-read-length : tie.Need-sub-read-length
+sub-read-length c = search needs
+
+part-read-length-start : tie.Need-part-read-length-start
+part-read-length-start c = search needs
+
+part-read-length-end : tie.Need-part-read-length-end
+part-read-length-end c = search needs
+
+read-length-requires : tie.Need-read-length-requires
+read-length-requires c κs = search needs
+
+returns-3 : tie.Need-returns-3
+unfolding readElement
+returns-3 c = rw (sym (c .before .before .before .before .before .has-tag .ensures) ∙ not-false _ (c .before .before .before .before .if1 .left), ← c .before .before .before .tag-length .ensures) (rw (rest-cut (c .before .before .before .tag-length .result) (c .before .before .before .before .before .before .before .args .octets .now) (omega (arith, c .before .before .if2 .left))) at (c .read-length .ensures))
+
+pub read-element-spec : {M : Type 1} → statement M
+read-element-spec =
+    tie.close
+    (tie.spec
+    has-tag-requires
+    returns
+    tag-length-requires
+    returns-2
+    sub-read-length
+    part-read-length-start
+    part-read-length-end
+    read-length-requires
+    returns-3)

@@ -1,0 +1,162 @@
+// Reading an element: what its octets give at a form, however they should have been written. Octets after it are left.
+ghost use mathlib.Core.Path.{_≡_};
+ghost use mathlib.Core.Bool.{true, cond};
+ghost use Prim.Native.Nat.{_+_, _≤_};
+ghost use lib.ListN.{length, take};
+ghost use Rattle.kinds.specs.Kinds.{none};
+ghost use Rattle.lists.specs.Octets.{eqList};
+ghost use Rattle.printing.specs.Stores.{Put};
+ghost use Rattle.texts.specs.Texts.{readOf};
+ghost use Rattle.types.specs.declared.types.Name.{Name};
+ghost use Rattle.encodings.specs.Encodings.{ofText};
+ghost use Rattle.der.specs.Elements.{tagOf};
+ghost use Rattle.der.specs.Readings.{allDigits, digitsOnly, separated, readContents, readLength, readElement};
+use crate::elements::put_contents;
+use crate::elements::tag_length;
+use lists::words::same;
+use reading::read_text;
+use texts::Form;
+use texts::TextRead;
+use types::Name;
+
+// Whether all octets are digits.
+fn all_digits(octets: &[u8]) -> bool
+    ensures { λ r. ⌜ r ≡ allDigits (now (octets .entry)) ⌝ }
+{
+    let mut i = 0;
+    while i < octets.len() {
+        if octets[i] < b'0' {
+            return false;
+        }
+        if b'9' < octets[i] {
+            return false;
+        }
+        i += 1;
+    }
+    true
+}
+
+// Whether the octets are so many digits.
+fn digits_only(count: usize, octets: &[u8]) -> bool
+    ensures { λ r. ⌜ r ≡ digitsOnly count (now (octets .entry)) ⌝ }
+{
+    if octets.len() != count {
+        return false;
+    }
+    all_digits(octets)
+}
+
+// Puts octets from a place on. Under a settings list nothing is left out of them.
+fn put_all(room: &mut [u8], at: usize, octets: &[u8]) -> usize
+    requires { ⌜ at + length (now octets) ≤ length (now room) ⌝ }
+    ensures { λ r. ⌜ Put (now (room .entry)) (now (room .exit)) at (now (octets .entry)) r ⌝ }
+{
+    put_contents(room, at, Name::Listed, octets)
+}
+
+// Puts three fields from a place on, with a separator between them, from their digits: so many for the first, two for the
+// second, the rest for the third.
+fn put_fields(room: &mut [u8], at: usize, separator: u8, width: usize, digits: &[u8]) -> usize
+    requires { ⌜ (width + 2 ≤ length (now digits)) × (at + (length (now digits) + 2) ≤ length (now room)) ⌝ }
+    ensures { λ r. ⌜ Put (now (room .entry)) (now (room .exit)) at (separated separator width (now (digits .entry))) r ⌝ }
+{
+    let first = put_all(room, at, &digits[..width]);
+    room[first] = separator;
+    let second = put_all(room, first + 1, &digits[width..width + 2]);
+    room[second] = separator;
+    put_all(room, second + 1, &digits[width + 2..])
+}
+
+// Reads a date or a time from its digits: 4 or 2 for the first field, and two for each of the others.
+fn read_fields(form: Form, separator: u8, width: usize, contents: &[u8]) -> TextRead
+    requires { ⌜ width ≤ 4 ⌝ }
+    ensures { λ r. ⌜ ofText r ≡ cond (digitsOnly (width + 4) (now (contents .entry))) (ofText (readOf form (separated separator width (now (contents .entry))))) none ⌝ }
+{
+    if !digits_only(width + 4, contents) {
+        return TextRead::NotOfForm;
+    }
+    let mut text = [0u8; 10];
+    let end = put_fields(&mut text, 0, separator, width, contents);
+    read_text(form, &text[..end])
+}
+
+// Reads a date-time from its fourteen digits.
+fn read_date_time(form: Form, contents: &[u8]) -> TextRead
+    ensures { λ r. ⌜ ofText r ≡ readContents Name.DateTime form (now (contents .entry)) ⌝ }
+{
+    if !digits_only(14, contents) {
+        return TextRead::NotOfForm;
+    }
+    let mut text = [0u8; 19];
+    let place = put_fields(&mut text, 0, b'-', 4, &contents[..8]);
+    text[place] = b'T';
+    put_fields(&mut text, place + 1, b':', 2, &contents[8..]);
+    read_text(form, &text)
+}
+
+// Reads the contents.
+fn read_contents(name: Name, form: Form, contents: &[u8]) -> TextRead
+    ensures { λ r. ⌜ ofText r ≡ readContents name form (now (contents .entry)) ⌝ }
+{
+    match name {
+        Name::Listed => read_text(form, contents),
+        Name::Date => read_fields(form, b'-', 4, contents),
+        Name::TimeOfDay => read_fields(form, b':', 2, contents),
+        Name::DateTime => read_date_time(form, contents),
+    }
+}
+
+// Reads the length and the contents.
+fn read_length(name: Name, form: Form, octets: &[u8]) -> TextRead
+    ensures { λ r. ⌜ ofText r ≡ readLength name form (now (octets .entry)) ⌝ }
+{
+    if octets.len() == 0 {
+        return TextRead::NotOfForm;
+    }
+    let count = octets[0];
+    if 127 < count {
+        return TextRead::NotOfForm;
+    }
+    let end = count as usize + 1;
+    if octets.len() < end {
+        return TextRead::NotOfForm;
+    }
+    read_contents(name, form, &octets[1..end])
+}
+
+// Whether octets begin with these.
+fn begins(octets: &[u8], front: &[u8]) -> bool
+    ensures { λ r. ⌜ r ≡ eqList (take (length (now (front .entry))) (now (octets .entry))) (now (front .entry)) ⌝ }
+{
+    let count = front.len();
+    if octets.len() < count {
+        return false;
+    }
+    same(&octets[..count], front)
+}
+
+// Whether octets begin with the tag.
+fn has_tag(name: Name, octets: &[u8]) -> bool
+    ensures { λ r. ⌜ r ≡ eqList (take (length (tagOf name)) (now (octets .entry))) (tagOf name) ⌝ }
+{
+    match name {
+        Name::Listed => begins(octets, b"\x0E"),
+        Name::Date => begins(octets, b"\x1F\x1F"),
+        Name::TimeOfDay => begins(octets, b"\x1F\x20"),
+        Name::DateTime => begins(octets, b"\x1F\x21"),
+    }
+}
+
+// Reads an element: tag, length and contents.
+pub(crate) fn read_element(name: Name, form: Form, octets: &[u8]) -> TextRead
+    ensures { λ r. ⌜ ofText r ≡ readElement name form (now (octets .entry)) ⌝ }
+{
+    if !has_tag(name, octets) {
+        return TextRead::NotOfForm;
+    }
+    let at = tag_length(name);
+    if octets.len() < at {
+        return TextRead::NotOfForm;
+    }
+    read_length(name, form, &octets[at..])
+}
