@@ -1,6 +1,6 @@
 ghost use mathlib.Core.Path.{_≡_};
 ghost use Rattle.answers.specs.Outcomes.{outcomeOf, roomOf};
-ghost use Rattle.codec.specs.Coding.{perEncode, perDecode, derEncode};
+ghost use Rattle.codec.specs.Coding.{perEncode, perDecode, derEncode, derDecode};
 use answers::Outcome;
 use answers::Refusal;
 use settings::read_type;
@@ -41,6 +41,19 @@ pub fn der_encode(settings: &[u8], limits: Limits, text: &[u8], room: &mut [u8])
     let read = read_type(settings, limits);
     match read {
         TypeRead::Type(t) => der::encode(t, text, room),
+        TypeRead::Unreadable => Outcome::refused(Refusal::Settings),
+        TypeRead::NoRow => Outcome::refused(Refusal::Rows),
+    }
+}
+
+// Puts the canonical text of octets in DER at the front of the room, or refuses.
+pub fn der_decode(settings: &[u8], limits: Limits, octets: &[u8], room: &mut [u8]) -> Outcome
+    ensures { λ r. ⌜ r ≡ outcomeOf (derDecode (now (settings .entry)) limits (now (octets .entry))) (now (room .entry)) ⌝ }
+    ensures { λ _. ⌜ now (room .exit) ≡ roomOf (derDecode (now (settings .entry)) limits (now (octets .entry))) (now (room .entry)) ⌝ }
+{
+    let reader = read_type(settings, limits);
+    match reader {
+        TypeRead::Type(t) => der::decode(t, octets, room),
         TypeRead::Unreadable => Outcome::refused(Refusal::Settings),
         TypeRead::NoRow => Outcome::refused(Refusal::Rows),
     }
