@@ -38,7 +38,7 @@ use Rattle.values.proofs.Laws.Holding.{in-type}
 use Rattle.lists.specs.Octets.{eqList}
 use Rattle.kinds.specs.Kinds.{Option, some, none}
 use Rattle.kinds.specs.Coding.{judgedAs}
-use Rattle.kinds.specs.Demands.{Holds, Lawful}
+use Rattle.kinds.specs.Causes.{Accepted, Holds, Judged, Lawful}
 use Rattle.kinds.proofs.Laws.Coding as Coding
 use Rattle.encodings.specs.Encodings.{ofText}
 use Rattle.encodings.proofs.Laws.Encodings.{answerOf, answerWith, decoded-short, encoded-admitted, judged-as, text-read}
@@ -121,47 +121,60 @@ module _ (form : Form) where
       let back : drop 8 (x ++ y) ≡ y = drop-at x y 8 (fields-length 0 4 (q .0) (q .1) (q .2)) in
       rw (k, o, front, back, fields-back hyphen 4 (q .0) (q .1) (q .2), fields-back colon 2 (r .0) (r .1) (r .2), q .3, r .3)
 
-own-contents : (name : Name) (p : Parts) (v : Value) → ownSettings name p ≡ true → valueForm v ≡ formOfParts p → admits p v ≡ true
-    → readContents name (formOfParts p) (contentsOf name (textOf v)) ≡ ofText (readOf (formOfParts p) (textOf v))
+own-contents : (form : Form) (name : Name) (p : Parts) (v : Value) → ownSettings name p ≡ true → valueForm v ≡ formOfParts p → admits p v ≡ true
+    → readContents name form (contentsOf name (textOf v)) ≡ ofText (readOf form (textOf v))
 unfolding contentsOf render
-own-contents Name.Listed p v o f a = rw (without-none (textOf v))
-own-contents Name.Date (Parts.Date t) (Value.Date d) o f a = date-contents (Form.Date (t .form)) t d o (let g : dateForm d ≡ t .form = cc in g) a
-own-contents Name.TimeOfDay (Parts.Time t) (Value.Time u) o f a = time-contents (Form.Time (t .form)) t u o (let g : timeForm u ≡ t .form = cc in g)
-own-contents Name.DateTime (Parts.DateTime t u) (Value.DateTime d e) o f a =
+own-contents form Name.Listed p v o f a = rw (without-none (textOf v))
+own-contents form Name.Date (Parts.Date t) (Value.Date d) o f a = date-contents form t d o (let g : dateForm d ≡ t .form = cc in g) a
+own-contents form Name.TimeOfDay (Parts.Time t) (Value.Time u) o f a = time-contents form t u o (let g : timeForm u ≡ t .form = cc in g)
+own-contents form Name.DateTime (Parts.DateTime t u) (Value.DateTime d e) o f a =
     let p = both (basicYmd t) (localHms u) o in
-    date-time-contents (Form.DateTime (t .form) (u .form)) t u d e (p .0) (p .1) (let g : dateForm d ≡ t .form = cc in g) (let g : timeForm e ≡ u .form = cc in g)
+    date-time-contents form t u d e (p .0) (p .1) (let g : dateForm d ≡ t .form = cc in g) (let g : timeForm e ≡ u .form = cc in g)
     (both (admitsDate t d) _ a .0)
-own-contents Name.Date (Parts.Date t) (Value.Time u) o f a = absurd (let z : _≡_ {A = ℕ} 0 1 = cc in omega arith)
-own-contents Name.Date (Parts.Date t) (Value.DateTime d u) o f a = absurd (let z : _≡_ {A = ℕ} 0 1 = cc in omega arith)
-own-contents Name.Date (Parts.Time t) v o f a = absurd (false≢true o)
-own-contents Name.Date (Parts.DateTime t u) v o f a = absurd (false≢true o)
-own-contents Name.TimeOfDay (Parts.Date t) v o f a = absurd (false≢true o)
-own-contents Name.TimeOfDay (Parts.Time t) (Value.Date d) o f a = absurd (let z : _≡_ {A = ℕ} 0 1 = cc in omega arith)
-own-contents Name.TimeOfDay (Parts.Time t) (Value.DateTime d u) o f a = absurd (let z : _≡_ {A = ℕ} 0 1 = cc in omega arith)
-own-contents Name.TimeOfDay (Parts.DateTime t u) v o f a = absurd (false≢true o)
-own-contents Name.DateTime (Parts.Date t) v o f a = absurd (false≢true o)
-own-contents Name.DateTime (Parts.Time t) v o f a = absurd (false≢true o)
-own-contents Name.DateTime (Parts.DateTime t u) (Value.Date d) o f a = absurd (let z : _≡_ {A = ℕ} 0 1 = cc in omega arith)
-own-contents Name.DateTime (Parts.DateTime t u) (Value.Time e) o f a = absurd (let z : _≡_ {A = ℕ} 0 1 = cc in omega arith)
+own-contents form Name.Date (Parts.Date t) (Value.Time u) o f a = absurd (let z : _≡_ {A = ℕ} 0 1 = cc in omega arith)
+own-contents form Name.Date (Parts.Date t) (Value.DateTime d u) o f a = absurd (let z : _≡_ {A = ℕ} 0 1 = cc in omega arith)
+own-contents form Name.Date (Parts.Time t) v o f a = absurd (false≢true o)
+own-contents form Name.Date (Parts.DateTime t u) v o f a = absurd (false≢true o)
+own-contents form Name.TimeOfDay (Parts.Date t) v o f a = absurd (false≢true o)
+own-contents form Name.TimeOfDay (Parts.Time t) (Value.Date d) o f a = absurd (let z : _≡_ {A = ℕ} 0 1 = cc in omega arith)
+own-contents form Name.TimeOfDay (Parts.Time t) (Value.DateTime d u) o f a = absurd (let z : _≡_ {A = ℕ} 0 1 = cc in omega arith)
+own-contents form Name.TimeOfDay (Parts.DateTime t u) v o f a = absurd (false≢true o)
+own-contents form Name.DateTime (Parts.Date t) v o f a = absurd (false≢true o)
+own-contents form Name.DateTime (Parts.Time t) v o f a = absurd (false≢true o)
+own-contents form Name.DateTime (Parts.DateTime t u) (Value.Date d) o f a = absurd (let z : _≡_ {A = ℕ} 0 1 = cc in omega arith)
+own-contents form Name.DateTime (Parts.DateTime t u) (Value.Time e) o f a = absurd (let z : _≡_ {A = ℕ} 0 1 = cc in omega arith)
+
+-- The element of a value that a type holds gives at every form, also at another than the type's, what the canonical text gives.
+pub element-gives : (t : Ty) (v : Value) → Holds der t v → (form : Form) → readElement (t .name) form (elementOf (t .name) v) ≡ ofText (readOf form (textOf v))
+unfolding elementOf wellFormed
+element-gives t v h form =
+    let i = in-type t v (h .inside) in
+    element-read (t .name) form (contentsOf (t .name) (textOf v)) (let m = length-most (t .name) v (h .real) in omega arith)
+    ∙ own-contents form (t .name) (t .parts) v (both (wellParts (t .parts)) _ (h .formed) .1) (i .0) (i .1)
 
 octets-read : (t : Ty) (v : Value) → Holds der t v → readElement (t .name) (formOf t) (elementOf (t .name) v) ≡ some v
-unfolding elementOf wellFormed
-octets-read t v h =
-    let i = in-type t v (h .inside) in
-    element-read (t .name) (formOf t) (contentsOf (t .name) (textOf v)) (let m = length-most (t .name) v (h .real) in omega arith)
-    ∙ own-contents (t .name) (t .parts) v (both (wellParts (t .parts)) _ (h .formed) .1) (i .0) (i .1)
-    ∙ text-read nameOf elementOf (λ name v. noBits) readElement t v h canonical
+octets-read t v h = element-gives t v h (formOf t) ∙ text-read nameOf elementOf (λ name v. noBits) readElement t v h canonical
 
 pub der-lawful : Lawful der
 der-lawful = record { text-own = λ t v h. text-read nameOf elementOf (λ name v. noBits) readElement t v h canonical; octets-own = octets-read }
+
+-- Whatever is accepted is the element of the value returned.
+pub der-accepted : (t : Ty) (octets text : List ℕ) {bits : Bits} → derDecoded t octets ≡ done text bits → Accepted der t octets text
+der-accepted t octets text {bits} e = Coding.decoded-only der t octets text bits e
 
 -- Two values of one type never share an encoding.
 pub der-one-encoding : (t : Ty) (a b : Value) → Holds der t a → Holds der t b → elementOf (t .name) a ≡ elementOf (t .name) b → a ≡ b
 der-one-encoding t a b h k e = Coding.one-encoding der der-lawful t a b h k e
 
--- Any text of a value that a type holds becomes exactly its element.
-pub der-encodes : (t : Ty) (v : Value) → Holds der t v → (s : Spelling) → derEncoded t (render s v) ≡ done (elementOf (t .name) v) noBits
-der-encodes t v h s = Coding.encoded-own der t (render s v) v h (text-read nameOf elementOf (λ name v. noBits) readElement t v h s)
+-- ---- "Each is given exactly then."
+
+pub der-judged : (t : Ty) (octets : List ℕ) → Judged der t octets (derDecoded t octets)
+der-judged t octets = Coding.judged der t octets
+
+pub der-judged-only : (t : Ty) (octets : List ℕ) (answer : Answer) → Judged der t octets answer → derDecoded t octets ≡ answer
+der-judged-only t octets answer j = Coding.judged-only der t octets answer j
+
+-- ---- how long results are
 
 -- A result is short.
 pub der-encoded-short : (t : Ty) (text result : List ℕ) (bits : Bits) → derEncoded t text ≡ done result bits → length result ≤ 55
@@ -179,8 +192,8 @@ pub der-admitted : (t : Ty) (text : List ℕ) → derEncoded t text ≡ answerOf
 der-admitted = encoded-admitted nameOf elementOf (λ name v. noBits) readElement
 
 -- What is judged of a value is an admission.
-pub der-judged : (t : Ty) (v : Value) (answer : Answer) → judgedAs der t v answer ≡ answerWith answer (judged t v)
-der-judged = judged-as nameOf elementOf (λ name v. noBits) readElement
+pub der-judged-as : (t : Ty) (v : Value) (answer : Answer) → judgedAs der t v answer ≡ answerWith answer (judged t v)
+der-judged-as = judged-as nameOf elementOf (λ name v. noBits) readElement
 
 -- The element that is written into a buffer, to be compared with.
 pub own-element : (name : Name) (v : Value) (text room own : List ℕ) (r : Outcome) → existsValue v ≡ true → text ≡ textOf v → 55 ≤ length room

@@ -1,19 +1,17 @@
--- Demands 2 and 3 and "each is given exactly then", for any lawful kind.
+-- What demands 2 and 3 rest on, and "each is given exactly then", for any lawful kind.
 use mathlib.Core.Path.{_≡_, refl, ap, sym, _∙_}
 use mathlib.Core.Bool.{Bool, true, false, cond}
-use mathlib.Core.List.{List, _++_}
-use Prim.Native.Nat.{ℕ, _≤_}
+use mathlib.Core.List.{List}
+use Prim.Native.Nat.{ℕ}
 use native.Mathlib.Omega.{arith}
-use lib.ListN.{length, take, drop}
-use Rattle.answers.specs.Outcomes.{Answer, done, refused, outcomeOf, roomOf}
+use Rattle.answers.specs.Outcomes.{Answer, done, refused}
 use Rattle.answers.specs.declared.counts.Bits.{Bits}
 use Rattle.answers.specs.declared.refusals.Refusal.{Refusal}
-use Rattle.answers.proofs.Laws.Outcomes as Outcomes
 use Rattle.lists.specs.Octets.{eqList}
 use Rattle.lists.proofs.Laws.Octets.{equal, equal-test}
 use Rattle.kinds.specs.Kinds.{Kind, Option, some, none}
 use Rattle.kinds.specs.Coding.{judgedAs, judgedText, encoded, compared, judgedOctets, decoded}
-use Rattle.kinds.specs.Demands.{Holds, Lawful, Demand2, Accepted, sent, Demand3, Judged, one, three, four, five, six, zero}
+use Rattle.kinds.specs.Causes.{Holds, Lawful, Accepted, Judged, one, three, four, five, six, zero}
 
 -- A test that lets a result through held.
 passed : (b : Bool) (answer : Answer) (why : Refusal) (result : List ℕ) (bits : Bits)
@@ -83,37 +81,6 @@ module _ {T F R A : Type 0} (K : Kind T F R A) where
         let p = L .octets-own t a h in
         let q = L .octets-own t b k in
         cc
-
-    pub demand-2 : (t : T) (text : List ℕ) (a : A) → Holds K t a → K .readText (K .form t) text ≡ some a → Demand2 K t text a
-    demand-2 t text a h e = record {
-      encodes = λ room l. rw (encoded-own t text a h e) (Outcomes.enough (K .encoding (K .row t) a) room (K .count (K .row t) a) l);
-      decodes = λ room l. rw (round-trip t a h) (Outcomes.enough (K .textOf a) room (K .count (K .row t) a) l);
-    }
-
-    -- The same of the octets and the bit count that were sent.
-    as-sent : (w r : T) (a : A) → K .form w ≡ K .form r → K .row w ≡ K .row r → Holds K w a → K .wellFormed r ≡ true
-        → (octets : List ℕ) (bits : Bits) → _≡_ {A = Answer} (done (K .encoding (K .row w) a) (K .count (K .row w) a)) (done octets bits)
-        → decoded K r octets ≡ cond (K .inType r a) (done (K .textOf a) bits) (refused Refusal.Membership)
-    as-sent w r a f y h g octets bits e =
-        let s : K .encoding (K .row w) a ≡ octets = cc in
-        let c : K .count (K .row w) a ≡ bits = cc in
-        rw (← s, ← c) (read-back w r a f y h g)
-
-    pub demand-3 : (w r : T) (text room : List ℕ) → K .form w ≡ K .form r → K .row w ≡ K .row r → K .wellFormed r ≡ true
-        → outcomeOf (encoded K w text) room .number ≡ 0 → Demand3 K w r text room
-    unfolding sent
-    demand-3 w r text room f y g e =
-        let o = Outcomes.result-told (encoded K w text) room e in
-        let x = encoded-only w text _ _ o in
-        let a = x .0 in
-        let b = as-sent w r a f y (x .1) g _ _ (x .3) in
-        record {
-          value = a;
-          read = x .2;
-          held = x .1;
-          returns = λ i room2 l. rw (b, i) (Outcomes.enough (K .textOf a) room2 (outcomeOf (encoded K w text) room .bits) l);
-          refuses = λ i room2. rw (b, i) (Outcomes.none Refusal.Membership room2);
-        }
 
 module _ {T F R A : Type 0} (K : Kind T F R A) (t : T) (octets : List ℕ) where
   -- The decoder's answer has its cause, ..

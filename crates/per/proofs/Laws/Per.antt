@@ -1,4 +1,4 @@
--- Unaligned PER meets what is asked of a kind, and so demands 2 and 3.
+-- Unaligned PER meets what is asked of a kind.
 use mathlib.Core.Path.{_≡_, refl, ap, sym, _∙_}
 use mathlib.Core.Bool.{Bool, true, false, cond}
 use mathlib.Core.List.{List}
@@ -36,7 +36,7 @@ use Rattle.unpacking.specs.Unpacked.{valueIn}
 use Rattle.unpacking.specs.declared.values.ValueRead.{ValueRead}
 use Rattle.kinds.specs.Kinds.{Option, some, none}
 use Rattle.kinds.specs.Coding.{judgedAs, judgedText, encoded}
-use Rattle.kinds.specs.Demands.{Holds, Lawful, Demand2, Accepted, Demand3, Judged}
+use Rattle.kinds.specs.Causes.{Accepted, Holds, Judged, Lawful}
 use Rattle.kinds.proofs.Laws.Coding as Coding
 use Rattle.encodings.specs.Encodings.{ofText}
 use Rattle.encodings.proofs.Laws.Encodings.{answerOf, decoded-short, encoded-admitted, held-by, text-read}
@@ -44,7 +44,7 @@ use Rattle.per.specs.Per.{ofBits, encodingOf, countOf, per, perEncoded, 
 use Rattle.per.proofs.Laws.Carried.{held-carried}
 use Rattle.per.proofs.Laws.Packed.{encoding-short}
 
-abbrev bitsGiven : YearRow → Form → List ℕ → Option Value
+abbrev pub bitsGiven : YearRow → Form → List ℕ → Option Value
 bitsGiven row form octets = ofBits (readOctets row form octets)
 
 octets-read : (t : Ty) (v : Value) → Holds per t v → ofBits (readOctets (rowOf t) (formOf t) (encodingOf (rowOf t) v)) ≡ some v
@@ -54,13 +54,6 @@ octets-read t v h = rw (← in-type t v (h .inside) .0) (ap ofBits (read-octets 
 pub per-lawful : Lawful per
 per-lawful = record { text-own = λ t v h. text-read rowOf encodingOf countOf bitsGiven t v h canonical; octets-own = octets-read }
 
--- ---- demand 2
-
--- Any text of a value that a type holds becomes exactly the standard's octets, with their bit count, and these come back as the
--- canonical text.
-pub per-demand-2 : (t : Ty) (v : Value) → Holds per t v → (s : Spelling) → Demand2 per t (render s v) v
-per-demand-2 t v h s = Coding.demand-2 per per-lawful t (render s v) v h (text-read rowOf encodingOf countOf bitsGiven t v h s)
-
 -- Whatever is accepted is the encoding of the value returned.
 pub per-accepted : (t : Ty) (octets text : List ℕ) {bits : Bits} → perDecoded t octets ≡ done text bits → Accepted per t octets text
 per-accepted t octets text {bits} e = Coding.decoded-only per t octets text bits e
@@ -68,13 +61,6 @@ per-accepted t octets text {bits} e = Coding.decoded-only per t octets text bits
 -- Two values of one type never share an encoding.
 pub per-one-encoding : (t : Ty) (a b : Value) → Holds per t a → Holds per t b → encodingOf (rowOf t) a ≡ encodingOf (rowOf t) b → a ≡ b
 per-one-encoding t a b h k e = Coding.one-encoding per per-lawful t a b h k e
-
--- ---- demand 3
-
--- Types with the same rows and digits, with whatever years and limits.
-pub per-demand-3 : (w r : Ty) (text room : List ℕ) → sameRows w r ≡ true → fractionDigits w ≡ fractionDigits r → wellFormed r ≡ true
-    → outcomeOf (perEncoded w text) room .number ≡ 0 → Demand3 per w r text room
-per-demand-3 w r text room s n f e = Coding.demand-3 per per-lawful w r text room (same-form w r s n) (same-rows w r s) f e
 
 -- ---- "Each is given exactly then."
 

@@ -7,7 +7,7 @@ use Rattle.kinds.specs.Coding.{decoded, judgedOctets}
 use Rattle.encodings.specs.Encodings.{ofText}
 use Rattle.values.proofs.Laws.Existing.{judged-held}
 use Rattle.values.proofs.Laws.Holding.{held}
-use Rattle.der.proofs.Laws.Der.{der-judged}
+use Rattle.der.proofs.Laws.Der.{der-judged-as}
 use borrow.Author.Needs.{needs}
 use Rattle.der.proofs.decoding.decode.Statement.{statement}
 use Rattle.der.proofs.decoding.decode.Tie as tie
@@ -61,11 +61,11 @@ same-length c = search needs
 
 returns-3 : tie.Need-returns-3
 unfolding decoded judgedOctets
-returns-3 c = rw (sym (c .before .before .before .before .before .before .before .before .before .before .before .before .before .before .well-formed .ensures) ∙ not-false _ (c .before .before .before .before .before .before .before .before .before .before .before .before .before .if1 .left), ← c .before .before .before .before .before .before .before .before .before .before .before .before .form .ensures, sym (c .before .before .before .before .before .before .before .before .before .before .before .read-element .ensures) ∙ ap ofText (c .before .before .before .before .before .before .before .before .before .value .given .1), der-judged _ _ _, sym (c .before .before .before .before .before .before .before .judge .ensures) ∙ c .before .before .before .before .before .admission .given .1, judged-held _ _ _ (sym (c .before .before .before .before .before .before .before .judge .ensures) ∙ c .before .before .before .before .before .admission .given .1) .1) (c .before .before .compare .ensures)
+returns-3 c = rw (sym (c .before .before .before .before .before .before .before .before .before .before .before .before .before .before .well-formed .ensures) ∙ not-false _ (c .before .before .before .before .before .before .before .before .before .before .before .before .before .if1 .left), ← c .before .before .before .before .before .before .before .before .before .before .before .before .form .ensures, sym (c .before .before .before .before .before .before .before .before .before .before .before .read-element .ensures) ∙ ap ofText (c .before .before .before .before .before .before .before .before .before .value .given .1), der-judged-as _ _ _, sym (c .before .before .before .before .before .before .before .judge .ensures) ∙ c .before .before .before .before .before .admission .given .1, judged-held _ _ _ (sym (c .before .before .before .before .before .before .before .judge .ensures) ∙ c .before .before .before .before .before .admission .given .1) .1) (c .before .before .compare .ensures)
 
 returns-4 : tie.Need-returns-4
 unfolding decoded judgedOctets outcomeOf roomOf
-returns-4 c = rw (sym (c .before .before .before .before .before .before .before .before .before .before .before .well-formed .ensures) ∙ not-false _ (c .before .before .before .before .before .before .before .before .before .before .if1 .left), ← c .before .before .before .before .before .before .before .before .before .form .ensures, sym (c .before .before .before .before .before .before .before .before .read-element .ensures) ∙ ap ofText (c .before .before .before .before .before .before .value .given .1), der-judged _ _ _, sym (c .before .before .before .before .judge .ensures) ∙ c .before .before .admission2 .given .1) (c .refused3 .ensures, refl)
+returns-4 c = rw (sym (c .before .before .before .before .before .before .before .before .before .before .before .well-formed .ensures) ∙ not-false _ (c .before .before .before .before .before .before .before .before .before .before .if1 .left), ← c .before .before .before .before .before .before .before .before .before .form .ensures, sym (c .before .before .before .before .before .before .before .before .read-element .ensures) ∙ ap ofText (c .before .before .before .before .before .before .value .given .1), der-judged-as _ _ _, sym (c .before .before .before .before .judge .ensures) ∙ c .before .before .admission2 .given .1) (c .refused3 .ensures, refl)
 
 pub decode-spec : {M : Type 1} → statement M
 decode-spec =
