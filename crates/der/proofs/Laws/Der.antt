@@ -5,7 +5,7 @@ use mathlib.Core.List.{List, [], _∷_, _++_, append-assoc, append-nil}
 use Prim.Native.Nat.{ℕ, _+_, _≤_}
 use native.Mathlib.Omega.{arith}
 use lib.Dec.{eqb, leb}
-use lib.ListN.{length, take, drop, length-append}
+use lib.ListN.{length, take, drop, getD, length-append}
 use lib.Seq.{take-all, take-at, drop-at}
 use borrow.Author.Tests.{eq-eqb, le-leb}
 use Rattle.answers.specs.Outcomes.{Answer, done, outcomeOf, roomOf}
@@ -43,9 +43,24 @@ use Rattle.kinds.proofs.Laws.Coding as Coding
 use Rattle.encodings.specs.Encodings.{ofText}
 use Rattle.encodings.proofs.Laws.Encodings.{answerOf, answerWith, decoded-short, encoded-admitted, judged-as, text-read}
 use Rattle.der.specs.Der.{der, derDecoded, derEncoded, nameOf, noBits}
-use Rattle.der.specs.Elements.{contentsOf, element, elementOf, omits, without}
+use Rattle.der.specs.Elements.{contentsOf, element, elementOf, omits, tagOf, without}
 use Rattle.der.specs.Readings.{allDigits, dated, digitsOnly, readContents, readElement, separated, timed}
 use Rattle.der.proofs.Laws.Contents.{date-fields, element-size, fields-all, fields-back, fields-kept, fields-length, fieldsDigits, fieldsText, time-fields, without-most, without-none}
+
+-- ---- the tag
+
+abbrev nameAt : List ℕ → Name
+nameAt tag = cond (eqb (length tag) 1) Name.Listed (cond (eqb (getD tag 1 0) 31) Name.Date (cond (eqb (getD tag 1 0) 32) Name.TimeOfDay Name.DateTime))
+
+name-back : (name : Name) → nameAt (tagOf name) ≡ name
+name-back Name.Listed = refl
+name-back Name.Date = refl
+name-back Name.TimeOfDay = refl
+name-back Name.DateTime = refl
+
+-- Types of one tag have one name, or none.
+pub one-tag : (a b : Name) → tagOf a ≡ tagOf b → a ≡ b
+one-tag a b e = sym (name-back a) ∙ ap nameAt e ∙ name-back b
 
 -- ---- the length
 

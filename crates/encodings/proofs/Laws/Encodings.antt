@@ -1,6 +1,6 @@
 -- What holds of dates and times in any encoding.
-use mathlib.Core.Path.{_≡_, refl, ap, _∙_}
-use mathlib.Core.Bool.{Bool, true, false, cond}
+use mathlib.Core.Path.{_≡_, refl, ap, sym, _∙_}
+use mathlib.Core.Bool.{Bool, true, false, cond, false≢true}
 use mathlib.Core.List.{List}
 use Prim.Native.Nat.{ℕ, _≤_}
 use native.Mathlib.Omega.{arith}
@@ -9,7 +9,10 @@ use Rattle.answers.specs.Outcomes.{Answer, done, refused}
 use Rattle.answers.specs.declared.counts.Bits.{Bits}
 use Rattle.answers.specs.declared.refusals.Refusal.{Refusal}
 use Rattle.texts.specs.Texts.{readOf, render, textOf}
+use Rattle.texts.specs.Forms.{valueForm}
+use Rattle.texts.specs.Times.{canonical}
 use Rattle.texts.specs.Years.{longest}
+use Rattle.texts.proofs.Laws.Forms.{other-form}
 use Rattle.texts.proofs.Laws.Texts.{render-read}
 use Rattle.texts.specs.declared.forms.Form.{Form}
 use Rattle.texts.specs.declared.texts.TextRead.{TextRead}
@@ -18,12 +21,13 @@ use Rattle.texts.specs.declared.values.Value.{Value}
 use Rattle.types.specs.Types.{formOf, wellFormed}
 use Rattle.types.specs.declared.types.«Type».{«Type» as Ty}
 use Rattle.printing.proofs.Laws.Canonical.{text-length}
-use Rattle.values.specs.Admission.{admitted, judged, judgedRead}
+use Rattle.values.specs.Admission.{admitted, judged, judgedRead, textNumber}
 use Rattle.values.specs.Existence.{existsValue}
+use Rattle.values.specs.Forms.{sameForm}
 use Rattle.values.specs.Holding.{holdsOf, inType}
 use Rattle.values.specs.declared.admission.Admission.{Admission}
-use Rattle.values.proofs.Laws.Existing.{exists-digits, held-read}
-use Rattle.values.proofs.Laws.Holding.{held, holds-both}
+use Rattle.values.proofs.Laws.Existing.{exists-digits, held-fits, held-read}
+use Rattle.values.proofs.Laws.Holding.{form-same, held, holds-both, in-type, same-form}
 use Rattle.kinds.specs.Kinds.{Option, some, none}
 use Rattle.kinds.specs.Coding.{encoded, decoded, judgedText, judgedAs}
 use Rattle.kinds.specs.Causes.{Holds}
@@ -39,6 +43,31 @@ answerOf encoding count row (Admission.Refused why) = refused why
 abbrev pub answerWith : Answer → Admission → Answer
 answerWith answer (Admission.Value v) = answer
 answerWith answer (Admission.Refused why) = refused why
+
+-- The canonical text of a value that a type holds is of the type's form, ..
+pub own-form : (t : Ty) (v : Value) → holdsOf t v ≡ true → textNumber (readOf (formOf t) (textOf v)) ≡ 0
+own-form t v h = ap textNumber (held-read t v h canonical)
+
+-- .. and of no other.
+pub one-form : (t : Ty) (v : Value) → holdsOf t v ≡ true → (f : Form) → textNumber (readOf f (textOf v)) ≡ 0 → formOf t ≡ f
+one-form t v h f e = go (sameForm (valueForm v) f) refl
+  where
+    go : (b : Bool) → sameForm (valueForm v) f ≡ b → formOf t ≡ f
+    go true b = sym (in-type t v (held t v h .1) .0) ∙ same-form (valueForm v) f b
+    go false b =
+        let n : readOf f (textOf v) ≡ TextRead.NotOfForm =
+        other-form longest (omega arith) longest (omega arith) (omega arith) (omega arith) canonical v f (held-fits t v h) (λ q. false≢true (sym b ∙ form-same (valueForm v) f q)) in
+        absurd (let z : 3 ≡ 0 = sym (ap textNumber n) ∙ e in omega arith)
+
+-- A value that exists, and that a type doesn't hold, isn't in the type.
+pub not-inside : (t : Ty) (v : Value) → existsValue v ≡ true → holdsOf t v ≡ false → inType t v ≡ false
+unfolding holdsOf
+not-inside t v e h = rw e at h
+
+-- A text that is not of a form is read as nothing.
+pub text-none : (r : TextRead) → textNumber r ≡ 3 → ofText r ≡ none
+text-none (TextRead.Value v s) e = absurd (omega arith)
+text-none TextRead.NotOfForm e = refl
 
 module _ {R : Type 0} (row : Ty → R) (encoding : R → Value → List ℕ) (count : R → Value → Bits) (readOctets : R → Form → List ℕ → Option Value) where
   pub held-by : (t : Ty) (v : Value) → Holds (encodedBy row encoding count readOctets) t v → holdsOf t v ≡ true
