@@ -1,7 +1,6 @@
 """Checks convert_lines.py against document 01's example and hand-written replies, and that its lines ask for all."""
 
-import sys
-
+from checks import agree
 from convert_lines import all_lines, replies, reply
 
 # all that is read, all that is written
@@ -69,12 +68,6 @@ FIRST_WORDS = {
     b"unper": {b"0", b"1", b"2", b"3", b"4", b"5", b"6", b"?"},
     b"under": {b"?"},
 }
-
-
-def agree(found, expected, *what):
-    """Ends the program with a message when the two differ."""
-    if found != expected:
-        sys.exit("%s: found %r, expected %r" % (" ".join(map(str, what)), found, expected))
 
 
 def check_lines():
