@@ -347,7 +347,7 @@ def replacements(octets):
 
 
 def accepted(type_text, questions):
-    """Those of the octets that the decoder takes; each of them is what the encoder writes for the text that it gives."""
+    """Those of the octets that the decoder takes; each of them is what the encoder writes for the text it gives."""
     taken = set()
     for octets in questions:
         number, text, bits = der.decode(type_text, NO_LIMITS, octets, ROOM)

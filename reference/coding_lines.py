@@ -15,6 +15,7 @@ from pathlib import Path
 import der
 import per
 import value_lines
+from elements import element
 from per import DAY_TIME_FIELDS, fill, free_integer_bits, free_integer_length, number_bits, octet_bits
 from per import read_octets, value_bits
 from settings import NO_LIMITS, is_refused, read_type
@@ -565,6 +566,17 @@ def any_value(numbers):
         (time_type(time, zone), clock),
         (date_time_type(date, years, time, zone), date_text + b"T" + clock),
     ))
+
+
+def any_element(numbers, type_text, text):
+    """An element with one or two of its octets replaced, or octets of any number behind the start of one."""
+    octets = element(type_text, text)
+    if numbers.below(4) == 0:
+        return octets[:numbers.below(5)] + bytes(numbers.below(256) for _ in range(numbers.below(10)))
+    for _ in range(1 + numbers.below(2)):
+        place, other = numbers.below(len(octets)), numbers.one_of(b"0123456789-+:.,TWZ%c" % numbers.below(256))
+        octets = octets[:place] + bytes([other]) + octets[place + 1:]
+    return octets
 
 
 def any_values():

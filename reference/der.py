@@ -49,7 +49,7 @@ def read_contents(t, octets):
 
 
 def digits_text(name, contents):
-    """The text of a name's contents, its separators put back; "any other octet or count is refusal 3", which is None."""
+    """The text of a name's contents, its separators put back; None as "any other octet or count is refusal 3"."""
     if len(contents) != DIGIT_COUNTS[name] or any(octet not in DIGITS for octet in contents):
         return None
     text = contents
@@ -59,8 +59,8 @@ def digits_text(name, contents):
 
 
 def read_octets(t, octets):
-    """The value that the octets begin with, whether or not the encoder writes it so: "DER contents with a comma or `:00`
-    count as of the form, so they meet 6 and not 3"; None for refusal 3."""
+    """The value that the octets begin with, whether or not the encoder writes it so: "DER contents with a comma or
+    `:00` count as of the form, so they meet 6 and not 3"; None for refusal 3."""
     contents = read_contents(t, octets)
     if contents is not None and t.name is not None:
         contents = digits_text(t.name, contents)
