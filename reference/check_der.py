@@ -8,7 +8,7 @@ from checks import H_L, HF1_L, HM_LD, HM_Z, HMF1_LD, HMS_L, HMSF3_L, YMD_T_HMS_L
 from checks import Y_BASIC, Y_L5, Y_NEGATIVE, Y_PROLEPTIC, YD_BASIC, YM_BASIC, YMD_BASIC, YMD_PROLEPTIC, YW_BASIC
 from checks import YWD_BASIC
 from coding_lines import sample
-from convert_lines import der_vectors
+from elements import der_vectors
 from settings import NO_LIMITS
 from value_lines import DATES, DATE_TAILS, NAMES, TIMES, YEAR_CHOICES, ZONES
 from value_lines import date_time_type, date_type, time_text, time_type

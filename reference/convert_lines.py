@@ -8,7 +8,6 @@ which is not counted, and the last one need not. Types have no limits, and the r
 import itertools
 import sys
 from collections import namedtuple
-from pathlib import Path
 
 import der
 import per
@@ -18,15 +17,13 @@ import value_lines
 from lines import split_lines
 from per import fill
 from coding_lines import BASIC, BASIC_PROLEPTIC, HEX, L5, LONGEST_LINE, NEGATIVE, NEGATIVE_L5, PROLEPTIC, bits_of
-from elements import element
+from elements import der_vectors, element
 from settings import NO_LIMITS
 from value_lines import DATES, DATE_TAILS, TIMES, WHOLE_TIMES, YEAR_CHOICES, ZONES
 from value_lines import date_time_type, date_type, time_text, time_type
 
 # more octets than any result has
 ROOM = 64
-
-DER_VECTORS = Path(__file__).resolve().parent.parent / "vectors" / "der.txt"
 
 # how the input is read, what is done with it, and how the result is written
 Work = namedtuple("Work", "read convert write")
@@ -184,17 +181,6 @@ def in_turn(questions):
     for k, (type_text, text) in enumerate(questions):
         work = FOUR_WORKS[k % 4]
         yield line(work, type_text, to_hex(text) if work in (b"unper", b"under") else text)
-
-
-def der_vectors():
-    """The types, texts and octets of the outside tool."""
-    type_text = None
-    for line_of_file in DER_VECTORS.read_bytes().splitlines():
-        if b";" in line_of_file:
-            text, digits = line_of_file.split(b";")
-            yield type_text, text, from_hex(digits)
-        else:
-            type_text = line_of_file
 
 
 def first_lines():

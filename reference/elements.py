@@ -4,11 +4,14 @@ Where a function takes or gives a type, it is a text; the octets with it are for
 """
 
 import itertools
+from pathlib import Path
 
 from der import LEFT_OUT, TAGS
 from settings import is_refused, read_type
 from texts import canonical_text, read_text
 from value_lines import NAMES, date_time_type, date_type, time_type
+
+VECTORS = Path(__file__).resolve().parent.parent / "vectors" / "der.txt"
 
 # of the four kinds of types, of DURATION, UTCTime, GeneralizedTime and VisibleString, in the form for numbers above 30,
 # in two octets more, constructed, of other classes, and none
@@ -48,13 +51,24 @@ def element(type_text, text):
 
 def spellings(type_text, text):
     """The element with the text as it stands, and with its canonical text where that is another; none for a type with
-    refusal 1 or 2."""
+    refusal 1 or 2, or where a length of one octet doesn't reach."""
     t = read_type(type_text)
-    if is_refused(t):
+    if is_refused(t) or len(text) > 255:
         return []
     read = read_text(t, text)
     texts = [text] if read is None else [text, canonical_text(read[0])]
     return [element(type_text, each) for each in dict.fromkeys(texts)]
+
+
+def der_vectors():
+    """The types, texts and octets of the outside tool."""
+    type_text = None
+    for line_of_file in VECTORS.read_bytes().splitlines():
+        if b";" in line_of_file:
+            text, digits = line_of_file.split(b";")
+            yield type_text, text, bytes.fromhex(digits.decode("ascii"))
+        else:
+            type_text = line_of_file
 
 
 def replaced(octets):
