@@ -24,19 +24,18 @@ use Rattle.types.specs.declared.types.«Type».{«Type» as Ty}
 use Rattle.settings.specs.TypeTexts.{typeOf}
 use Rattle.settings.proofs.Laws.WellFormed.{read-well-formed}
 use Rattle.values.specs.Admission.{textNumber}
-use Rattle.values.specs.Holding.{holdsOf, inType}
-use Rattle.values.proofs.Laws.Holding as Holding
+use Rattle.values.specs.Holding.{holdsOf}
 use Rattle.fields.specs.Bits.{octetsOf}
 use Rattle.fields.specs.Fields.{bitCount, layout}
 use Rattle.rows.specs.Fields.{fieldsOf, rowOf}
 use Rattle.rows.proofs.Laws.SameRows.{same-form, same-rows}
-use Rattle.kinds.specs.Causes.{Holds, Lawful, three}
+use Rattle.kinds.specs.Causes.{Lawful}
 use Rattle.kinds.specs.Coding.{encoded, decoded}
 use Rattle.kinds.specs.Kinds.{Option, none as nothing}
 use Rattle.kinds.proofs.Laws.Coding as Coding
 use Rattle.encodings.specs.Encodings.{encodedBy}
 use Rattle.encodings.proofs.Laws.Encodings as Encodings
-use Rattle.encodings.proofs.Laws.Encodings.{not-inside, one-form, own-form, text-none}
+use Rattle.encodings.proofs.Laws.Encodings.{one-form, own-form, text-none}
 use Rattle.per.specs.Per.{countOf, encodingOf}
 use Rattle.per.proofs.Laws.Per.{bitsGiven, per-lawful}
 use Rattle.der.specs.Der.{nameOf, noBits}
@@ -46,6 +45,7 @@ use Rattle.der.proofs.Laws.Der.{der-lawful, element-gives, one-tag}
 use Rattle.codec.specs.Coding.{derDecode, derEncode, perDecode, perEncode}
 use Rattle.codec.specs.Limits.{limitsGiven, underLimits}
 use Rattle.codec.specs.declared.limits.GivenLimits.{GivenLimits}
+use Rattle.codec.proofs.Laws.Exchanges as Exchanges
 
 -- ---- what is said of a call
 
@@ -146,12 +146,6 @@ module _ (result room : List ℕ) (bits : Bits) where
         rest = Outcomes.rest-unchanged result room bits h;
       }
 
-  -- what a successful writer sent is its result, with its bit count
-  sent-is : outcomeOf (done result bits) room .number ≡ 0 → (result ≡ sent (done result bits) room) × (bits ≡ outcomeOf (done result bits) room .bits)
-  sent-is e =
-      let t = Outcomes.result-told (done result bits) room e in
-      (let q : result ≡ sent (done result bits) room = cc in q, let q : bits ≡ outcomeOf (done result bits) room .bits = cc in q)
-
 refuses : (answer : Answer) (why : Refusal) (room : List ℕ) → outcomeOf answer room ≡ refusal why → roomOf answer room ≡ room → Refused answer room (numberOf why)
 refuses answer why room o r = record {
   number-is = ap (λ (p : Outcome). p .number) o;
@@ -177,96 +171,44 @@ comes-back answer room = go (Outcomes.told answer room)
     go (given result bits a h o) = a-result result (bits .count) h (fits answer room result bits a h)
     go (withheld why o r) = let n = Outcomes.number-range why in a-refusal (numberOf why) (n .0) (n .1) (refuses answer why room o r)
 
--- after 0 there is a result, and it has its place
-taken : (answer : Answer) (room : List ℕ) → outcomeOf answer room .number ≡ 0 → (result : List ℕ) × (bits : Bits) × (answer ≡ done result bits) × (length result ≤ length room)
-taken answer room e = go (Outcomes.told answer room)
-  where
-    go : Told answer room → (result : List ℕ) × (bits : Bits) × (answer ≡ done result bits) × (length result ≤ length room)
-    go (given result bits a h o) = (result, bits, a, h)
-    go (withheld why o r) = absurd (let n = Outcomes.number-range why in let z : numberOf why ≡ 0 = rw o at e in omega arith)
-
 -- ---- demands 2 and 3 in any encoding
 
 module _ {R : Type 0} (row : Ty → R) (encoding : R → Value → List ℕ) (count : R → Value → Bits) (readOctets : R → Form → List ℕ → Option Value)
     (L : Lawful (encodedBy row encoding count readOctets)) where
   module _ (t : Ty) (f : wellFormed t ≡ true) (write read : List ℕ → Answer) (x : (l : List ℕ) → write l ≡ encoded (encodedBy row encoding count readOctets) t l)
       (y : (l : List ℕ) → read l ≡ decoded (encodedBy row encoding count readOctets) t l) where
-    held : (v : Value) → holdsOf t v ≡ true → Holds (encodedBy row encoding count readOctets) t v
-    held v h = Encodings.holds row encoding count readOctets t v f h
-
-    written : (v : Value) → holdsOf t v ≡ true → (s : Spelling) → write (render s v) ≡ done (encoding (row t) v) (count (row t) v)
-    written v h s = x (render s v) ∙ Encodings.written row encoding count readOctets t v (held v h) s
-
-    read-again : (v : Value) → Holds (encodedBy row encoding count readOctets) t v → read (encoding (row t) v) ≡ done (textOf v) (count (row t) v)
-    read-again v h = y (encoding (row t) v) ∙ Coding.round-trip (encodedBy row encoding count readOctets) L t v h
-
-    texts : (text room : List ℕ) → outcomeOf (write text) room .number ≡ 0 → (v : Value) × (holdsOf t v ≡ true) × (s : Spelling) × (text ≡ render s v)
-    texts text room e =
-        let o = taken (write text) room e in
-        let w = Encodings.written-only row encoding count readOctets t text (o .0) (o .1) (sym (x text) ∙ o .2) in
-        (w .0, Encodings.held-by row encoding count readOctets t (w .0) (w .1), w .2, w .3)
-
-    no-more : (input room : List ℕ) → outcomeOf (read input) room .number ≡ 0
-        → (v : Value) × (holdsOf t v ≡ true) × (input ≡ encoding (row t) v) × Returned (read input) room (textOf v) (count (row t) v .count)
-    no-more input room e =
-        let o = taken (read input) room e in
-        let a = Coding.decoded-only (encodedBy row encoding count readOctets) t input (o .0) (o .1) (sym (y input) ∙ o .2) in
-        let v = a .value in
-        let d : read input ≡ done (textOf v) (count (row t) v) = ap read (a .octets-are) ∙ read-again v (a .held) in
-        (
-          v,
-          Encodings.held-by row encoding count readOctets t v (a .held),
-          a .octets-are,
-          fits (read input) room (textOf v) (count (row t) v) d (rw (a .text-is) at (o .3)),
-        )
-
     meets-2 : Demand2 write read t (λ v. encoding (row t) v) (λ v. count (row t) v .count)
-    meets-2 = record {
-      writes = λ v h s room l. fits _ room _ _ (written v h s) l;
-      no-room = λ v h s room l. short _ room _ _ (written v h s) l;
-      texts-only = texts;
-      reads = λ v h room l. fits _ room _ _ (read-again v (held v h)) l;
-      no-room-back = λ v h room l. short _ room _ _ (read-again v (held v h)) l;
-      nothing-more = no-more;
-      never-shared = λ a b h k e. Coding.one-encoding (encodedBy row encoding count readOctets) L t a b (held a h) (held b k) e;
-    }
+    meets-2 =
+        let held = Exchanges.held row encoding count readOctets L t f write read x y in
+        let written = Exchanges.written row encoding count readOctets L t f write read x y in
+        let again = Exchanges.read-again row encoding count readOctets L t f write read x y in
+        let more = Exchanges.no-more row encoding count readOctets L t f write read x y in
+        record {
+          writes = λ v h s room l. fits _ room _ _ (written v h s) l;
+          no-room = λ v h s room l. short _ room _ _ (written v h s) l;
+          texts-only = Exchanges.texts row encoding count readOctets L t f write read x y;
+          reads = λ v h room l. fits _ room _ _ (again v (held v h)) l;
+          no-room-back = λ v h room l. short _ room _ _ (again v (held v h)) l;
+          nothing-more = λ input room e. let m = more input room e in (m .0, m .1, m .2, fits _ room _ _ (m .3) (m .4));
+          never-shared = λ a b h k e. Coding.one-encoding (encodedBy row encoding count readOctets) L t a b (held a h) (held b k) e;
+        }
 
   module _ (w r : Ty) (fw : wellFormed w ≡ true) (fr : wellFormed r ≡ true) (same : row w ≡ row r) (v : Value) (hw : holdsOf w v ≡ true)
       (alike : textNumber (readOf (formOf r) (textOf v)) ≡ 0 → formOf w ≡ formOf r)
       (other : textNumber (readOf (formOf r) (textOf v)) ≡ 3 → readOctets (row r) (formOf r) (encoding (row w) v) ≡ nothing)
       (sender : Answer) (lent : List ℕ) (x : sender ≡ done (encoding (row w) v) (count (row w) v)) (ok : outcomeOf sender lent .number ≡ 0)
       (read : List ℕ → Answer) (y : (l : List ℕ) → read l ≡ decoded (encodedBy row encoding count readOctets) r l) where
-    -- what was sent is the encoding of the value, with its bit count
-    as-written : (sent sender lent ≡ encoding (row w) v) × (count (row w) v ≡ outcomeOf sender lent .bits)
-    as-written = rw x (let q = sent-is (encoding (row w) v) lent (count (row w) v) (rw x at ok) in (sym (q .0), q .1))
-
-    -- where the form is the writer's, the reader's type decides
-    decides : textNumber (readOf (formOf r) (textOf v)) ≡ 0 → (b : Bool) → inType r v ≡ b
-        → read (sent sender lent) ≡ cond b (done (textOf v) (outcomeOf sender lent .bits)) (refused Refusal.Membership)
-    decides e b i =
-        let s = as-written in
-        ap read (s .0) ∙ y (encoding (row w) v)
-        ∙ Coding.read-back (encodedBy row encoding count readOctets) L w r v (alike e) same (Encodings.holds row encoding count readOctets w v fw hw) fr
-        ∙ rw (i, s .1)
-
-    refused-3 : textNumber (readOf (formOf r) (textOf v)) ≡ 3 → read (sent sender lent) ≡ refused Refusal.Form
-    refused-3 e =
-        ap read (as-written .0) ∙ y (encoding (row w) v)
-        ∙ Coding.judged-only (encodedBy row encoding count readOctets) r (encoding (row w) v) (refused Refusal.Form) (three fr (other e))
-
-    returned : holdsOf r v ≡ true → read (sent sender lent) ≡ done (textOf v) (outcomeOf sender lent .bits)
-    returned h = decides (own-form r v h) true (Holding.held r v h .1)
-
-    refused-5 : holdsOf r v ≡ false → textNumber (readOf (formOf r) (textOf v)) ≡ 0 → read (sent sender lent) ≡ refused Refusal.Membership
-    refused-5 h e = decides e false (not-inside r v (Holding.held w v hw .0) h)
-
     meets-3 : Demand3 sender lent read r v
-    meets-3 = record {
-      returns = λ h room l. fits _ room _ _ (returned h) l;
-      no-room = λ h room l. short _ room _ _ (returned h) l;
-      refuses-5 = λ h e room. none _ room Refusal.Membership (refused-5 h e);
-      refuses-3 = λ e room. none _ room Refusal.Form (refused-3 e);
-    }
+    meets-3 =
+        let returned = Exchanges.returned row encoding count readOctets L w r fw fr same v hw alike other sender lent x ok read y in
+        let five = Exchanges.refused-5 row encoding count readOctets L w r fw fr same v hw alike other sender lent x ok read y in
+        let three = Exchanges.refused-3 row encoding count readOctets L w r fw fr same v hw alike other sender lent x ok read y in
+        record {
+          returns = λ h room l. fits _ room _ _ (returned h) l;
+          no-room = λ h room l. short _ room _ _ (returned h) l;
+          refuses-5 = λ h e room. none _ room Refusal.Membership (five h e);
+          refuses-3 = λ e room. none _ room Refusal.Form (three e);
+        }
 
 -- ---- the demands
 
@@ -314,7 +256,7 @@ module _ (settings₁ : List ℕ) (limits₁ : Limits) (w : Ty) (e₁ : typeOf l
         meets-3 rowOf encodingOf countOf bitsGiven per-lawful w r k (read-well-formed limits₂ settings₂ r e₂) (same-rows w r q) v h
         (λ z. f) (λ z. absurd (let c : 0 ≡ 3 = sym o ∙ z in omega arith))
         (perEncode settings₁ limits₁ (render s v)) room
-        (written rowOf encodingOf countOf bitsGiven per-lawful w k (perEncode settings₁ limits₁) (perDecode settings₁ limits₁) (λ l. rw e₁) (λ l. rw e₁) v h s) ok
+        (Exchanges.written rowOf encodingOf countOf bitsGiven per-lawful w k (perEncode settings₁ limits₁) (perDecode settings₁ limits₁) (λ l. rw e₁) (λ l. rw e₁) v h s) ok
         (perDecode settings₂ limits₂) (λ l. rw e₂),
       )
 
@@ -329,5 +271,5 @@ module _ (settings₁ : List ℕ) (limits₁ : Limits) (w : Ty) (e₁ : typeOf l
       (λ z. one-form w v h (formOf r) z)
       (λ z. rw (← n) (element-gives w v (Encodings.holds nameOf elementOf (λ name v. noBits) readElement w v k h) (formOf r) ∙ text-none (readOf (formOf r) (textOf v)) z))
       (derEncode settings₁ limits₁ (render s v)) room
-      (written nameOf elementOf (λ name v. noBits) readElement der-lawful w k (derEncode settings₁ limits₁) (derDecode settings₁ limits₁) (λ l. rw e₁) (λ l. rw e₁) v h s) ok
+      (Exchanges.written nameOf elementOf (λ name v. noBits) readElement der-lawful w k (derEncode settings₁ limits₁) (derDecode settings₁ limits₁) (λ l. rw e₁) (λ l. rw e₁) v h s) ok
       (derDecode settings₂ limits₂) (λ l. rw e₂)

@@ -1,2 +1,3 @@
 -- The laws of the entry points.
 pub mod Results
+pub mod Exchanges
