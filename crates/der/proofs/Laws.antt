@@ -2,4 +2,5 @@
 pub mod Contents
 pub mod Readings
 pub mod Der
+pub mod Loose
 pub mod Checked
