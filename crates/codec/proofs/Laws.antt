@@ -1,3 +1,4 @@
 -- The laws of the entry points.
 pub mod Results
 pub mod Exchanges
+pub mod Checked
