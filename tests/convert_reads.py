@@ -23,13 +23,17 @@ ENDS = (
     b"per;DATE;2006-06-13\n" * 9000, *(b"x" * size + b"\nder;DATE;2006-06-13\n" for size in SIZES),
 )
 
+GOOD = (
+    b"per;DATE;2006-06-13", b"unper;DATE;0558", b"der;DATE-TIME;2006-06-13T15:27:46", b"under;DATE;1F1F083230303630363133",
+)
+
 
 def any_line(numbers):
     """A good line, an empty one, or octets of any kind around the limit."""
-    kind = numbers.randrange(4)
-    if kind == 3:
+    kind = numbers.randrange(len(GOOD) + 1)
+    if kind == len(GOOD):
         return bytes(numbers.choices(b"per;0\x00\xff\r", k=numbers.choice((0, 5, 1023, 1024, 1025, 66000))))
-    return (b"per;DATE;2006-06-13", b"unper;DATE;0558", b"der;DATE-TIME;2006-06-13T15:27:46")[kind]
+    return GOOD[kind]
 
 
 def any_input(numbers):

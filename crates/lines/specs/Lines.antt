@@ -12,7 +12,7 @@ use Rattle.lists.specs.Lists.{spanTo}
 use Rattle.lists.specs.Octets.{bytes, eqList}
 use Rattle.kinds.specs.Kinds.{Option, some, none}
 use Rattle.types.specs.Types.{noLimits}
-use Rattle.codec.specs.Coding.{perEncode, perDecode, derEncode}
+use Rattle.codec.specs.Coding.{perEncode, perDecode, derEncode, derDecode}
 
 -- "more than 1,024 octets prints `?`": a line without its newline.
 abbrev pub longest : ℕ
@@ -62,13 +62,14 @@ abbrev pub ofOctets : (List ℕ → List ℕ) → Option (List ℕ) → List ℕ
 ofOctets reply (some octets) = reply octets
 ofOctets reply none = unasked
 
--- "work per, der, unper or under; hex input for the last two": the last is not there yet, and is an unknown work.
+-- "work per, der, unper or under; hex input for the last two"
 unfoldable pub worked : List ℕ → List ℕ → List ℕ → List ℕ
 worked work settings input =
     cond (eqList work (bytes "per")) (shown toHex (perEncode settings noLimits input))
     (cond (eqList work (bytes "der")) (shown toHex (derEncode settings noLimits input))
     (cond (eqList work (bytes "unper")) (ofOctets (λ octets. shown asText (perDecode settings noLimits octets)) (fromHex input))
-    unasked))
+    (cond (eqList work (bytes "under")) (ofOctets (λ octets. shown asText (derDecode settings noLimits octets)) (fromHex input))
+    unasked)))
 
 -- What follows the first semicolon, cut at its own first one.
 unfoldable pub cutAgain : List ℕ → List ℕ → List ℕ

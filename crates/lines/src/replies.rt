@@ -7,13 +7,14 @@ ghost use Rattle.lists.specs.Octets.{bytes};
 ghost use Rattle.printing.specs.Canonical.{capacity as textCapacity};
 ghost use Rattle.printing.specs.Stores.{Put};
 ghost use Rattle.types.specs.Types.{noLimits};
-ghost use Rattle.codec.specs.Coding.{perEncode, perDecode, derEncode};
+ghost use Rattle.codec.specs.Coding.{perEncode, perDecode, derEncode, derDecode};
 ghost use Rattle.lines.specs.Lines.{asText, cutAgain, fromHex, longest, ofOctets, shown, toHex, unasked, worked};
 ghost use Rattle.lines.specs.Rooms.{capacity, replyLength, roomWith};
 ghost use Rattle.lines.specs.Steps.{replyTo};
 use crate::hex::Hex;
 use crate::hex::put_hex;
 use crate::hex::read_hex;
+use codec::der_decode;
 use codec::der_encode;
 use codec::per_decode;
 use codec::per_encode;
@@ -130,6 +131,17 @@ fn octets_reply(settings: &[u8], octets: &[u8], room: &mut [u8]) -> usize
     text_reply(outcome.number, outcome.length.count, &buffer, room)
 }
 
+// The reply to octets in DER.
+fn element_reply(settings: &[u8], octets: &[u8], room: &mut [u8]) -> usize
+    requires { ⌜ capacity ≤ length (now room) ⌝ }
+    ensures { λ r. ⌜ Put (now (room .entry)) (now (room .exit)) 0 (shown asText (derDecode (now (settings .entry)) noLimits (now (octets .entry)))) r ⌝ }
+    ensures { λ r. ⌜ r ≤ capacity ⌝ }
+{
+    let mut buffer = [0u8; TEXT_CAPACITY];
+    let outcome = der_decode(settings, Limits::NONE, octets, &mut buffer);
+    text_reply(outcome.number, outcome.length.count, &buffer, room)
+}
+
 // The reply to `unper`.
 fn unper_reply(settings: &[u8], hex: &[u8], room: &mut [u8]) -> usize
     requires { ⌜ (length (now hex) ≤ longest) × (capacity ≤ length (now room)) ⌝ }
@@ -141,6 +153,19 @@ fn unper_reply(settings: &[u8], hex: &[u8], room: &mut [u8]) -> usize
         return unasked_reply(room);
     };
     octets_reply(settings, &buffer[..n], room)
+}
+
+// The reply to `under`.
+fn under_reply(settings: &[u8], hex: &[u8], room: &mut [u8]) -> usize
+    requires { ⌜ (length (now hex) ≤ longest) × (capacity ≤ length (now room)) ⌝ }
+    ensures { λ r. ⌜ Put (now (room .entry)) (now (room .exit)) 0 (ofOctets (λ octets. shown asText (derDecode (now (settings .entry)) noLimits octets)) (fromHex (now (hex .entry)))) r ⌝ }
+    ensures { λ r. ⌜ r ≤ capacity ⌝ }
+{
+    let mut buffer = [0u8; HEX_CAPACITY];
+    let Hex::Length(n) = read_hex(hex, &mut buffer) else {
+        return unasked_reply(room);
+    };
+    element_reply(settings, &buffer[..n], room)
 }
 
 // The reply to a work, a type's text and an input.
@@ -157,6 +182,9 @@ fn work_reply(work: &[u8], settings: &[u8], input: &[u8], room: &mut [u8]) -> us
     }
     if same(work, b"unper") {
         return unper_reply(settings, input, room);
+    }
+    if same(work, b"under") {
+        return under_reply(settings, input, room);
     }
     unasked_reply(room)
 }

@@ -33,8 +33,9 @@ use Rattle.rows.specs.Readings.{differenceAt, natural, readChoice, readClock, r
 use Rattle.kinds.specs.Coding.{compared, decoded, encoded, judgedAs, judgedOctets, judgedText}
 use Rattle.per.specs.Per.{countOf, encodingOf}
 use Rattle.answers.specs.Counts.{octetsFor}
-use Rattle.codec.specs.Coding.{derEncode, perDecode, perEncode}
+use Rattle.codec.specs.Coding.{derDecode, derEncode, perDecode, perEncode}
 use Rattle.der.specs.Elements.{contentsOf, element, elementOf, without}
+use Rattle.der.specs.Readings.{allDigits, digitsOnly, readElement, separated}
 use Rattle.lines.specs.Lines.{cutAgain, fromHex, hexDigit, hexNumber, replyOf, toHex, worked}
 
 -- a line with so many zeros behind it, and its reply
@@ -51,6 +52,11 @@ rows =
     line "unper;DATE;0558" 0 "0 2006-06-13" ∷
     line "unper;DATE;bfC780" 0 "0 2004-02-29" ∷
     line "unper;DATE;" 0 "3" ∷
+    line "under;DATE;1F1F083230303630363133" 0 "0 2006-06-13" ∷
+    line "under;TIME-OF-DAY;1f2006323430303030" 0 "0 24:00:00" ∷
+    line "under;Basic=Date Date=YW Year=Basic;0E08323032302D573533" 0 "0 2020-W53" ∷
+    line "under;DATE;0558" 0 "3" ∷
+    line "under;DATE;" 0 "3" ∷
     -- "fewer than two semicolons"; a third is the input's
     line "" 0 "?" ∷
     line "per" 0 "?" ∷
@@ -58,14 +64,18 @@ rows =
     line "per;DATE;" 0 "3" ∷
     line "per;DATE;2006-06-13;" 0 "3" ∷
     line "unper;DATE;0558;" 0 "?" ∷
+    line "under;DATE" 0 "?" ∷
     -- "an unknown work"
     line "PER;DATE;2006-06-13" 0 "?" ∷
     line "perr;DATE;2006-06-13" 0 "?" ∷
+    line "Under;DATE;1F1F083230303630363133" 0 "?" ∷
     line ";DATE;2006-06-13" 0 "?" ∷
     -- "hex input that isn't whole pairs of hex digits"
     line "unper;DATE;055" 0 "?" ∷
     line "unper;DATE;055G" 0 "?" ∷
     line "unper;DATE;05 58" 0 "?" ∷
+    line "under;DATE;1F1F08323030363036313" 0 "?" ∷
+    line "under;DATE;2006-06-13" 0 "?" ∷
     -- "or more than 1,024 octets"
     line "per;DATE;" 1015 "3" ∷
     line "per;DATE;" 1016 "?" ∷
@@ -78,5 +88,5 @@ allRight (line text zeros reply ∷ l) =
 
 -- Each line gives its reply, newline included.
 checked-lines : allRight rows ≡ true
-unfolding rows allRight upTo quotient remainder divisible monthLengthOf daysOfYears newYear weekOf weekOneOf weeksOf astronomicalOf yearAt leapOf yearLengthOf putAfter putDate getWeek getAfter getDate putDigits getDigits getField leading render getValue readUpTo putClock getAfterHours getClock putFraction getFraction putZone getMinutes getDifference getZone putTime getTime sizeIn yearDigits yearText signedFits getSigned getYear splitOn addPair addPairs datedList timedList complete completed listOf eqList placeFrom fractionNumber pairOf dateAt clockAt zoneAt listsOf sameButYear yearFamily oneRow equalLists allOf distinct usable member yearsOf timeAt listType joined typeOf placed limitedTo wellFormed existsClock existsFraction existsDifference existsTime sameDateForm sameTimeForm between admitsDate admitsTime inType bitsOf numberIn packed octetsOf unpacked half within fewest twos fromTwos binaryDigits width fieldBits layout fieldWidth bitCount _>>=_ aRanged aFree require readBits readRanged readFree run otherYear choiceOfYear yearFields dayFields dateFields clockFields longFraction fractionFields hoursField differenceFields zoneFields timeFields fieldsOf readChoice readYear readDay readDate readClock natural readExtended readFraction readMinutes differenceAt readZone readTime readValue readOctets judgedAs judgedText encoded compared judgedOctets decoded encodingOf countOf octetsFor spanTo perEncode perDecode derEncode without contentsOf element elementOf hexDigit toHex hexNumber fromHex worked cutAgain replyOf
+unfolding rows allRight upTo quotient remainder divisible monthLengthOf daysOfYears newYear weekOf weekOneOf weeksOf astronomicalOf yearAt leapOf yearLengthOf putAfter putDate getWeek getAfter getDate putDigits getDigits getField leading render getValue readUpTo putClock getAfterHours getClock putFraction getFraction putZone getMinutes getDifference getZone putTime getTime sizeIn yearDigits yearText signedFits getSigned getYear splitOn addPair addPairs datedList timedList complete completed listOf eqList placeFrom fractionNumber pairOf dateAt clockAt zoneAt listsOf sameButYear yearFamily oneRow equalLists allOf distinct usable member yearsOf timeAt listType joined typeOf placed limitedTo wellFormed existsClock existsFraction existsDifference existsTime sameDateForm sameTimeForm between admitsDate admitsTime inType bitsOf numberIn packed octetsOf unpacked half within fewest twos fromTwos binaryDigits width fieldBits layout fieldWidth bitCount _>>=_ aRanged aFree require readBits readRanged readFree run otherYear choiceOfYear yearFields dayFields dateFields clockFields longFraction fractionFields hoursField differenceFields zoneFields timeFields fieldsOf readChoice readYear readDay readDate readClock natural readExtended readFraction readMinutes differenceAt readZone readTime readValue readOctets judgedAs judgedText encoded compared judgedOctets decoded encodingOf countOf octetsFor spanTo perEncode perDecode derEncode derDecode without contentsOf element elementOf allDigits digitsOnly separated readElement hexDigit toHex hexNumber fromHex worked cutAgain replyOf
 checked-lines = refl
