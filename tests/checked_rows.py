@@ -39,18 +39,17 @@ LOCAL = re.compile(r"^ +time \(local \(Clock\.\w+((?: \d+)+)\) (\d+) (\d+)\) (tr
 ZONED = re.compile(r"^ +time \((ahead|behind) (\d+) (\d+)\) (true|false) ∷", re.M)
 UTC = re.compile(r"^ +time utc (true|false) ∷", re.M)
 
-PER = ROOT / "crates/per/proofs/Laws/Checked.antt"
-VALUE = re.compile(r'^ +value "([^"]*)" "([^"]*)" (\d) "([^"]*)" (\d+) ∷', re.M)
-CAUSE = re.compile(r'^ +cause "([^"]*)" (\w+) "([^"]*)" (\d+) (\d) ∷', re.M)
-PER_LIMITS = {
+CODINGS = ROOT / "crates/codec/proofs/Laws/Checked.antt"
+VALUE = re.compile(r'^ +value "([^"]*)" "([^"]*)" (\d) "([^"]*)" (\d+) "([^"]*)" ∷', re.M)
+TAGGED = re.compile(r'^ +element "([^"]*)" "([^"]*)" (\d) "([^"]*)" "([^"]*)" ∷', re.M)
+CAUSE = re.compile(r'^ +(per|der)Cause "([^"]*)" (\w+) "([^"]*)" (\d+) (\d) ∷', re.M)
+CODING_LIMITS = {
     "noLimits": settings.NO_LIMITS,
     "from2000": settings.Limits((2000, 2010), False),
     "noHour24": settings.Limits(None, True),
 }
+DECODERS = {"per": per.decode, "der": der.decode}
 ROOM = 64
-
-DER = ROOT / "crates/der/proofs/Laws/Checked.antt"
-ELEMENT = re.compile(r'^ +value "([^"]*)" "([^"]*)" (\d) "([^"]*)" ∷', re.M)
 
 LINES = ROOT / "crates/lines/proofs/Laws/Checked.antt"
 LINE = re.compile(r'^ +line "([^"]*)" (\d+) "([^"]*)" ∷', re.M)
@@ -136,26 +135,27 @@ def check_times():
         expect(TIMES, "utc", said, truth(time_exists((12,), 0, 0, "Z")))
 
 
-def check_per():
-    """The number, octets and bits of each value, and back; and the number of each cause."""
-    values, causes = rows(PER, VALUE, CAUSE)
-    for type_text, text, number, octets, bits in values:
-        said = (int(number), bytes.fromhex(octets), int(bits))
-        expect(PER, f"{type_text} {text}", said, per.encode(type_text.encode(), settings.NO_LIMITS, text.encode(), ROOM))
-        if number == "0":
-            back = per.decode(type_text.encode(), settings.NO_LIMITS, bytes.fromhex(octets), ROOM)
-            expect(PER, f"{type_text} {octets}", (0, text.encode(), int(bits)), back)
-    for type_text, limits, octets, room, number in causes:
-        found = per.decode(type_text.encode(), PER_LIMITS[limits], bytes.fromhex(octets), int(room))
-        expect(PER, f"{type_text} {octets}", int(number), found[0])
+def check_both_ways(coding, type_text, text, number, octets, bits, canonical):
+    """What an encoder makes of a text, and after 0 what the decoder makes of its octets."""
+    said = (int(number), bytes.fromhex(octets), int(bits))
+    found = coding.encode(type_text.encode(), settings.NO_LIMITS, text.encode(), ROOM)
+    expect(CODINGS, f"{type_text} {text}", said, found)
+    if number == "0":
+        back = coding.decode(type_text.encode(), settings.NO_LIMITS, bytes.fromhex(octets), ROOM)
+        expect(CODINGS, f"{type_text} {octets}", (0, canonical.encode(), int(bits)), back)
 
 
-def check_der():
-    """The number and the octets of each value, with no bits."""
-    (found,) = rows(DER, ELEMENT)
-    for type_text, text, number, octets in found:
-        said = (int(number), bytes.fromhex(octets), 0)
-        expect(DER, f"{type_text} {text}", said, der.encode(type_text.encode(), settings.NO_LIMITS, text.encode(), ROOM))
+def check_codings():
+    """Values in PER and in DER, and back; elements of each tag; and the number of each cause."""
+    values, tagged, causes = rows(CODINGS, VALUE, TAGGED, CAUSE)
+    for type_text, text, number, octets, bits, element in values:
+        check_both_ways(per, type_text, text, number, octets, bits, text)
+        check_both_ways(der, type_text, text, number, element, "0", text)
+    for type_text, text, number, element, canonical in tagged:
+        check_both_ways(der, type_text, text, number, element, "0", canonical)
+    for work, type_text, limits, octets, room, number in causes:
+        found = DECODERS[work](type_text.encode(), CODING_LIMITS[limits], bytes.fromhex(octets), int(room))
+        expect(CODINGS, f"{work} {type_text} {octets}", int(number), found[0])
 
 
 def check_lines():
@@ -170,6 +170,5 @@ if __name__ == "__main__":
     check_types()
     check_texts()
     check_times()
-    check_per()
-    check_der()
+    check_codings()
     check_lines()

@@ -250,14 +250,13 @@ module _ (settings₁ : List ℕ) (limits₁ : Limits) (w : Ty) (e₁ : typeOf l
   demand-3-per q n ok =
       let f = same-form w r q n in
       let o : textNumber (readOf (formOf r) (textOf v)) ≡ 0 = rw (← f) (own-form w v h) in
-      let k = read-well-formed limits₁ settings₁ w e₁ in
-      (
+      let k = read-well-formed limits₁ settings₁ w e₁ in (
         o,
         meets-3 rowOf encodingOf countOf bitsGiven per-lawful w r k (read-well-formed limits₂ settings₂ r e₂) (same-rows w r q) v h
-        (λ z. f) (λ z. absurd (let c : 0 ≡ 3 = sym o ∙ z in omega arith))
-        (perEncode settings₁ limits₁ (render s v)) room
-        (Exchanges.written rowOf encodingOf countOf bitsGiven per-lawful w k (perEncode settings₁ limits₁) (perDecode settings₁ limits₁) (λ l. rw e₁) (λ l. rw e₁) v h s) ok
-        (perDecode settings₂ limits₂) (λ l. rw e₂),
+            (λ z. f) (λ z. absurd (let c : 0 ≡ 3 = sym o ∙ z in omega arith))
+            (perEncode settings₁ limits₁ (render s v)) room
+            (Exchanges.written rowOf encodingOf countOf bitsGiven per-lawful w k (perEncode settings₁ limits₁) (perDecode settings₁ limits₁) (λ l. rw e₁) (λ l. rw e₁) v h s) ok
+            (perDecode settings₂ limits₂) (λ l. rw e₂),
       )
 
   -- In DER: one tag.

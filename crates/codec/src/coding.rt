@@ -51,8 +51,8 @@ pub fn der_decode(settings: &[u8], limits: Limits, octets: &[u8], room: &mut [u8
     ensures { λ r. ⌜ r ≡ outcomeOf (derDecode (now (settings .entry)) limits (now (octets .entry))) (now (room .entry)) ⌝ }
     ensures { λ _. ⌜ now (room .exit) ≡ roomOf (derDecode (now (settings .entry)) limits (now (octets .entry))) (now (room .entry)) ⌝ }
 {
-    let reader = read_type(settings, limits);
-    match reader {
+    let element_reader = read_type(settings, limits);
+    match element_reader {
         TypeRead::Type(t) => der::decode(t, octets, room),
         TypeRead::Unreadable => Outcome::refused(Refusal::Settings),
         TypeRead::NoRow => Outcome::refused(Refusal::Rows),

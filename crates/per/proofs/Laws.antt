@@ -2,4 +2,3 @@
 pub mod Carried
 pub mod Per
 pub mod Packed
-pub mod Checked

@@ -40,8 +40,7 @@ taken answer room e = go (Outcomes.told answer room)
 pub sent-is : (result room : List ℕ) (bits : Bits) → outcomeOf (done result bits) room .number ≡ 0
     → (result ≡ take (outcomeOf (done result bits) room .length .count) (roomOf (done result bits) room)) × (bits ≡ outcomeOf (done result bits) room .bits)
 sent-is result room bits e =
-    let t = Outcomes.result-told (done result bits) room e in
-    (
+    let t = Outcomes.result-told (done result bits) room e in (
       let q : result ≡ take (outcomeOf (done result bits) room .length .count) (roomOf (done result bits) room) = cc in q,
       let q : bits ≡ outcomeOf (done result bits) room .bits = cc in q,
     )
@@ -70,8 +69,7 @@ module _ {R : Type 0} (row : Ty → R) (encoding : R → Value → List ℕ) (co
     no-more input room e =
         let o = taken (read input) room e in
         let a = Coding.decoded-only (encodedBy row encoding count readOctets) t input (o .0) (o .1) (sym (y input) ∙ o .2) in
-        let v = a .value in
-        (
+        let v = a .value in (
           v,
           Encodings.held-by row encoding count readOctets t v (a .held),
           a .octets-are,

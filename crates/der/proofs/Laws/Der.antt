@@ -218,8 +218,7 @@ unfolding elementOf
 own-element name v text room own r x q h o m =
     let l : length (element name (contentsOf name (textOf v))) ≤ 55 = element-most name v x in
     let f : length (element name (contentsOf name text)) ≤ length room = rw q (omega arith) in
-    let n : r .length .count ≡ length (element name (contentsOf name text)) = ap (λ (p : Outcome). p .length .count) (o ∙ enough _ room noBits f .0) in
-    (
+    let n : r .length .count ≡ length (element name (contentsOf name text)) = ap (λ (p : Outcome). p .length .count) (o ∙ enough _ room noBits f .0) in (
       rw (n, q) l,
       rw n (ap (take (length (element name (contentsOf name text)))) m ∙ in-front (element name (contentsOf name text)) room noBits f ∙ rw q),
     )

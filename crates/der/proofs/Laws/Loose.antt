@@ -65,8 +65,7 @@ module _ (form : Form) (v : Value) where
   length-only name (n ∷ l) e =
       let p = let-through (leb n 127 && leb n (length l)) _ v e in
       let b = both (leb n 127) (leb n (length l)) (p .0) in
-      let k = length-take-le n l (leb-true n (length l) (b .1)) in
-      (
+      let k = length-take-le n l (leb-true n (length l) (b .1)) in (
         take n l,
         drop n l,
         rw k (leb-true n 127 (b .0)),
@@ -85,8 +84,7 @@ module _ (form : Form) (v : Value) where
   der-reads name octets e =
       let p = let-through (eqList (take (length (tagOf name)) octets) (tagOf name)) _ v e in
       let q = length-only name (drop (length (tagOf name)) octets) (p .1) in
-      let c = contents-only name (q .0) (q .4) in
-      (
+      let c = contents-only name (q .0) (q .4) in (
         q .1,
         record {
           contents = q .0;

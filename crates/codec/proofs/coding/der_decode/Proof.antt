@@ -9,8 +9,8 @@ use Rattle.codec.proofs.coding.der_decode.Tie as tie
 read-type-requires : tie.Need-read-type-requires
 read-type-requires c κs = tt
 
-enum-known-reader : tie.Need-enum-known-reader
-enum-known-reader c = search needs
+enum-known-element-reader : tie.Need-enum-known-element-reader
+enum-known-element-reader c = search needs
 
 decode-requires : tie.Need-decode-requires
 decode-requires c κs = tt
@@ -32,7 +32,7 @@ same-length c = search needs
 
 returns : tie.Need-returns
 unfolding derDecode
-returns c = rw (sym (c .before .before .before .before .before .before .before .read-type .ensures) ∙ c .before .before .before .before .before .reader .given .1) (c .before .before .decode .ensures)
+returns c = rw (sym (c .before .before .before .before .before .before .before .read-type .ensures) ∙ c .before .before .before .before .before .element-reader .given .1) (c .before .before .decode .ensures)
 
 returns-2 : tie.Need-returns-2
 unfolding derDecode outcomeOf roomOf
@@ -47,7 +47,7 @@ der-decode-spec =
     tie.close
     (tie.spec
     read-type-requires
-    enum-known-reader
+    enum-known-element-reader
     decode-requires
     enum-told
     refused-requires
