@@ -2,9 +2,9 @@
 -- hex or text; a line with fewer than two semicolons, an unknown work, hex input that isn't whole pairs of hex digits, or more
 -- than 1,024 octets prints `?`."
 use Prim.Native.Nat.{ℕ, _+_, _-_, _*_, _/_, _%_}
-use mathlib.Core.Bool.{Bool, _&&_, cond}
+use mathlib.Core.Bool.{_&&_, cond}
 use mathlib.Core.List.{List, [], _∷_, _++_}
-use lib.Dec.{eqb, leb, ltb}
+use lib.Dec.{leb, ltb}
 use lib.ListN.{length, take, drop}
 use Rattle.answers.specs.Outcomes.{Answer, done, refused}
 use Rattle.answers.specs.Refusals.{numberOf}

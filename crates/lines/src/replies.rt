@@ -1,7 +1,7 @@
 // The replies. Each is stored at the front of the room, and its length is answered.
 ghost use mathlib.Core.Path.{_≡_};
 ghost use mathlib.Core.List.{_∷_};
-ghost use Prim.Native.Nat.{_+_, _*_, _<_, _≤_};
+ghost use Prim.Native.Nat.{_+_, _<_, _≤_};
 ghost use lib.ListN.{length};
 ghost use Rattle.lists.specs.Octets.{bytes};
 ghost use Rattle.printing.specs.Canonical.{capacity as textCapacity};

@@ -1,6 +1,6 @@
 ghost use mathlib.Core.Path.{_≡_};
 ghost use Rattle.answers.specs.Outcomes.{done, outcomeOf, roomOf};
-ghost use Rattle.kinds.specs.Coding.{judgedAs, compared};
+ghost use Rattle.kinds.specs.Coding.{compared};
 ghost use Rattle.rows.specs.Fields.{rowOf, yearsRow};
 ghost use Rattle.values.specs.Existence.{existsValue};
 ghost use mathlib.Core.Bool.{true};
@@ -20,8 +20,7 @@ use unpacking::unpack;
 use values::Admission;
 use values::admit;
 use values::deliver_text;
-use values::in_type;
-use values::value_exists;
+use values::judge;
 
 // How the row of these years has them.
 fn years_row(years: Years) -> YearRow
@@ -92,21 +91,6 @@ fn compare(t: Type, octets: &[u8], value: Value, room: &mut [u8]) -> Outcome
     deliver_text(value, bits, room)
 }
 
-// The answer to octets that give a value: whether it exists, whether it is in the type, and whether the octets are
-// the encoder's.
-fn judge(t: Type, octets: &[u8], value: Value, room: &mut [u8]) -> Outcome
-    ensures { λ r. ⌜ r ≡ outcomeOf (judgedAs perKind t value (compared perKind t (now (octets .entry)) value)) (now (room .entry)) ⌝ }
-    ensures { λ _. ⌜ now (room .exit) ≡ roomOf (judgedAs perKind t value (compared perKind t (now (octets .entry)) value)) (now (room .entry)) ⌝ }
-{
-    if !value_exists(value) {
-        return Outcome::refused(Refusal::Existence);
-    }
-    if !in_type(t, value) {
-        return Outcome::refused(Refusal::Membership);
-    }
-    compare(t, octets, value, room)
-}
-
 // Puts the canonical text of the octets' value under a type at the front of the room, or refuses.
 pub fn decode(t: Type, octets: &[u8], room: &mut [u8]) -> Outcome
     ensures { λ r. ⌜ r ≡ outcomeOf (perDecoded t (now (octets .entry))) (now (room .entry)) ⌝ }
@@ -118,5 +102,9 @@ pub fn decode(t: Type, octets: &[u8], room: &mut [u8]) -> Outcome
     let ValueRead::Value(value) = unpack(row_of(t), t.form(), octets) else {
         return Outcome::refused(Refusal::Form);
     };
-    judge(t, octets, value, room)
+    let admission = judge(t, value);
+    match admission {
+        Admission::Value(value) => compare(t, octets, value, room),
+        Admission::Refused(why) => Outcome::refused(why),
+    }
 }

@@ -1,8 +1,6 @@
 -- `years` meets its contract.
 use mathlib.Core.Path.{_∙_}
 use Rattle.calendar.proofs.Laws.Years.{year-is}
-use Rattle.checked.specs.Cases.{within}
-use Rattle.types.specs.declared.types.Limits.{Limits}
 use Rattle.types.specs.declared.types.Window.{Window}
 use borrow.Author.Needs.{needs}
 use Rattle.checked.proofs.years.Statement.{statement}

@@ -1,10 +1,10 @@
 -- DER meets what is asked of a kind.
 use mathlib.Core.Path.{_≡_, refl, ap, sym, _∙_}
-use mathlib.Core.Bool.{Bool, true, false, _&&_, cond, false≢true}
-use mathlib.Core.List.{List, [], _∷_, _++_, append-assoc, append-nil}
+use mathlib.Core.Bool.{true, false, cond, false≢true}
+use mathlib.Core.List.{List, [], _∷_, _++_, append-nil}
 use Prim.Native.Nat.{ℕ, _+_, _≤_}
 use native.Mathlib.Omega.{arith}
-use lib.Dec.{eqb, leb}
+use lib.Dec.{eqb}
 use lib.ListN.{length, take, drop, getD, length-append}
 use lib.Seq.{take-all, take-at, drop-at}
 use borrow.Author.Tests.{eq-eqb, le-leb}
@@ -21,7 +21,6 @@ use Rattle.texts.specs.Octets.{hyphen, colon, letterT}
 use Rattle.texts.specs.Texts.{readOf, render, textOf}
 use Rattle.texts.specs.Times.{canonical, putTime}
 use Rattle.texts.specs.declared.forms.Form.{Form}
-use Rattle.texts.specs.declared.values.Spelling.{Spelling}
 use Rattle.texts.specs.declared.values.Time.{Time}
 use Rattle.texts.specs.declared.values.Value.{Value}
 use Rattle.types.specs.Types.{basicYmd, formOf, formOfParts, localHms, ownSettings, wellFormed, wellParts}
@@ -36,7 +35,7 @@ use Rattle.values.specs.Holding.{admits, admitsDate}
 use Rattle.values.proofs.Laws.Existing.{exists-digits}
 use Rattle.values.proofs.Laws.Holding.{in-type}
 use Rattle.lists.specs.Octets.{eqList}
-use Rattle.kinds.specs.Kinds.{Option, some, none}
+use Rattle.kinds.specs.Kinds.{some, none}
 use Rattle.kinds.specs.Coding.{judgedAs}
 use Rattle.kinds.specs.Causes.{Accepted, Holds, Judged, Lawful}
 use Rattle.kinds.proofs.Laws.Coding as Coding
@@ -44,8 +43,8 @@ use Rattle.encodings.specs.Encodings.{ofText}
 use Rattle.encodings.proofs.Laws.Encodings.{answerOf, answerWith, decoded-short, encoded-admitted, judged-as, text-read}
 use Rattle.der.specs.Der.{der, derDecoded, derEncoded, nameOf, noBits}
 use Rattle.der.specs.Elements.{contentsOf, element, elementOf, omits, tagOf, without}
-use Rattle.der.specs.Readings.{allDigits, dated, digitsOnly, readContents, readElement, separated, timed}
-use Rattle.der.proofs.Laws.Contents.{date-fields, element-size, fields-all, fields-back, fields-kept, fields-length, fieldsDigits, fieldsText, time-fields, without-most, without-none}
+use Rattle.der.specs.Readings.{allDigits, digitsOnly, readContents, readElement}
+use Rattle.der.proofs.Laws.Contents.{date-fields, element-size, fields-all, fields-back, fields-kept, fields-length, fieldsDigits, time-fields, without-most, without-none}
 
 -- ---- the tag
 

@@ -6,13 +6,12 @@ use Prim.Native.Nat.{ℕ, _≤_}
 use native.Mathlib.Omega.{arith}
 use lib.Dec.{leb}
 use lib.ListN.{length, length-append, take, drop, take-append-drop}
-use lib.Seq.{length-take-le, take-append-seam, drop-append-seam, take-at, drop-at}
+use lib.Seq.{length-take-le, take-append-seam, drop-append-seam}
 use borrow.Author.Tests.{le-leb, leb-true}
 use Rattle.calendar.proofs.Laws.Bools.{both}
 use Rattle.kinds.specs.Kinds.{Option, some, none}
 use Rattle.lists.specs.Octets.{eqList}
 use Rattle.lists.proofs.Laws.Octets.{equal, equal-test}
-use Rattle.texts.specs.Octets.{letterT}
 use Rattle.texts.specs.Texts.{readOf, render}
 use Rattle.texts.specs.Years.{longest}
 use Rattle.texts.specs.declared.forms.Form.{Form}
@@ -24,7 +23,7 @@ use Rattle.types.specs.declared.types.Name.{Name}
 use Rattle.encodings.specs.Encodings.{ofText}
 use Rattle.der.specs.Elements.{element, tagOf}
 use Rattle.der.specs.Loose.{Readable, StandsFor}
-use Rattle.der.specs.Readings.{dated, digitsOnly, readContents, readElement, readLength, timed}
+use Rattle.der.specs.Readings.{digitsOnly, readContents, readElement, readLength}
 
 -- A test that lets something through held.
 let-through : {A : Type 0} (b : Bool) (o : Option A) (a : A) → cond b o none ≡ some a → (b ≡ true) × (o ≡ some a)

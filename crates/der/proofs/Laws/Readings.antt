@@ -1,13 +1,13 @@
 -- Steps of the code that reads an element.
 use mathlib.Core.Path.{_≡_, refl, ap, sym, _∙_}
-use mathlib.Core.Bool.{Bool, true, false, _&&_, cond, and-false}
+use mathlib.Core.Bool.{true, false, and-false}
 use mathlib.Core.List.{List, [], _∷_, _++_, append-nil}
-use Prim.Native.Nat.{ℕ, suc, _+_, _-_, _≤_, _<_}
+use Prim.Native.Nat.{ℕ, _+_, _-_, _≤_, _<_}
 use native.Mathlib.Numerals.{add-one}
 use native.Mathlib.Omega.{arith}
-use lib.Dec.{eqb, leb}
+use lib.Dec.{eqb}
 use lib.ListN.{length, length-append, length-drop, take, drop, getD, set, drop-of-length-le}
-use lib.Seq.{drop-cons, drop-drop, length-take-le, sets, take-all, take-at}
+use lib.Seq.{drop-cons, drop-drop, length-take-le, take-all, take-at}
 use borrow.Author.Tests.{le-leb, lt-leb, eqb-true}
 use Rattle.calendar.proofs.Laws.Bools.{both}
 use Rattle.lists.specs.Octets.{eqList}
@@ -15,9 +15,8 @@ use Rattle.lists.proofs.Laws.Octets.{unequal-length}
 use Rattle.printing.specs.Stores.{Put}
 use Rattle.printing.proofs.Laws.Stores.{put-octet, put-then, sets-front}
 use Rattle.kinds.specs.Kinds.{none}
-use Rattle.texts.specs.Octets.{colon, hyphen, isDigit, letterT}
+use Rattle.texts.specs.Octets.{colon, hyphen, letterT}
 use Rattle.texts.specs.declared.forms.Form.{Form}
-use Rattle.texts.proofs.Laws.Digits.{is-digit}
 use Rattle.types.specs.declared.types.Name.{Name}
 use Rattle.der.specs.Elements.{contentsOf}
 use Rattle.der.specs.Readings.{allDigits, dated, digitsOnly, readContents, readLength, separated, timed}

@@ -1,29 +1,19 @@
 -- Unaligned PER meets what is asked of a kind.
-use mathlib.Core.Path.{_≡_, refl, ap, sym, _∙_}
-use mathlib.Core.Bool.{Bool, true, false, cond}
+use mathlib.Core.Path.{_≡_, refl, ap}
+use mathlib.Core.Bool.{Bool}
 use mathlib.Core.List.{List}
 use Prim.Native.Nat.{ℕ, _≤_}
 use lib.ListN.{length}
 use native.Mathlib.Omega.{arith}
-use Rattle.answers.specs.Outcomes.{Answer, done, refused, outcomeOf}
+use Rattle.answers.specs.Outcomes.{Answer, done}
 use Rattle.answers.specs.declared.counts.Bits.{Bits}
-use Rattle.answers.specs.declared.refusals.Refusal.{Refusal}
-use Rattle.texts.specs.Forms.{valueForm}
-use Rattle.texts.specs.Texts.{readOf, render, textOf}
 use Rattle.texts.specs.Times.{canonical}
 use Rattle.texts.specs.declared.forms.Form.{Form}
-use Rattle.texts.specs.declared.texts.TextRead.{TextRead}
-use Rattle.texts.specs.declared.values.Spelling.{Spelling}
 use Rattle.texts.specs.declared.values.Value.{Value}
-use Rattle.types.specs.Rows.{sameRows}
-use Rattle.types.specs.Types.{formOf, fractionDigits, wellFormed}
+use Rattle.types.specs.Types.{formOf}
 use Rattle.types.specs.declared.types.«Type».{«Type» as Ty}
-use Rattle.values.specs.Admission.{admitted, judged, judgedRead}
-use Rattle.values.specs.Existence.{existsValue}
-use Rattle.values.specs.Holding.{holdsOf, inType}
-use Rattle.values.specs.declared.admission.Admission.{Admission}
-use Rattle.values.proofs.Laws.Existing.{held-read}
-use Rattle.values.proofs.Laws.Holding.{holds-both, in-type}
+use Rattle.values.specs.Admission.{admitted, judged}
+use Rattle.values.proofs.Laws.Holding.{in-type}
 use Rattle.fields.specs.Bits.{BitString, unpacked}
 use Rattle.fields.specs.Readings.{Found, found, nothing}
 use Rattle.rows.specs.Fields.{rowOf}
@@ -31,15 +21,13 @@ use Rattle.rows.specs.Loose.{Readable}
 use Rattle.rows.specs.Readings.{readOctets}
 use Rattle.rows.specs.declared.YearRow.{YearRow}
 use Rattle.rows.proofs.Laws.Exact.{read-octets, reads-only, reads-all}
-use Rattle.rows.proofs.Laws.SameRows.{same-rows, same-form}
 use Rattle.unpacking.specs.Unpacked.{valueIn}
 use Rattle.unpacking.specs.declared.values.ValueRead.{ValueRead}
 use Rattle.kinds.specs.Kinds.{Option, some, none}
-use Rattle.kinds.specs.Coding.{judgedAs, judgedText, encoded}
+use Rattle.kinds.specs.Coding.{judgedAs}
 use Rattle.kinds.specs.Causes.{Accepted, Holds, Judged, Lawful}
 use Rattle.kinds.proofs.Laws.Coding as Coding
-use Rattle.encodings.specs.Encodings.{ofText}
-use Rattle.encodings.proofs.Laws.Encodings.{answerOf, decoded-short, encoded-admitted, held-by, text-read}
+use Rattle.encodings.proofs.Laws.Encodings.{answerOf, answerWith, decoded-short, encoded-admitted, held-by, judged-as, text-read}
 use Rattle.per.specs.Per.{ofBits, encodingOf, countOf, per, perEncoded, perDecoded}
 use Rattle.per.proofs.Laws.Carried.{held-carried}
 use Rattle.per.proofs.Laws.Packed.{encoding-short}
@@ -99,6 +87,10 @@ bits-read nothing = refl
 -- The encoder's answer is that of an admission.
 pub per-admitted : (t : Ty) (text : List ℕ) → perEncoded t text ≡ answerOf encodingOf countOf (rowOf t) (admitted t text)
 per-admitted = encoded-admitted rowOf encodingOf countOf bitsGiven
+
+-- What is judged of a value is an admission.
+pub per-judged-as : (t : Ty) (v : Value) (answer : Answer) → judgedAs per t v answer ≡ answerWith answer (judged t v)
+per-judged-as = judged-as rowOf encodingOf countOf bitsGiven
 
 -- ---- how long results are
 

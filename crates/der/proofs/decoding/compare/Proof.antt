@@ -1,6 +1,5 @@
 -- `decoding::compare` meets its contract: the octets are the value's own, or they are refused.
 use mathlib.Core.Path.{_≡_, refl, sym, _∙_}
-use Prim.Native.Nat.{_≤_}
 use native.Mathlib.Omega.{arith}
 use lib.ListN.{length, take}
 use lib.Seq.{length-take-le}
@@ -10,7 +9,6 @@ use Rattle.kinds.specs.Coding.{compared}
 use Rattle.printing.specs.Canonical.{capacity}
 use Rattle.texts.specs.Texts.{textOf}
 use Rattle.values.proofs.Laws.Existing.{printed-text, text-short, text-taken}
-use Rattle.der.specs.Elements.{elementOf}
 use Rattle.der.proofs.Laws.Der.{own-element}
 use borrow.Author.Needs.{needs}
 use Rattle.der.proofs.decoding.compare.Statement.{statement}

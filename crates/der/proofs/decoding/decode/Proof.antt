@@ -1,6 +1,5 @@
 -- `decoding::decode` meets its contract: a type, octets that give a value, and what is judged of it.
-use mathlib.Core.Path.{_≡_, ap, refl, sym, _∙_}
-use denote.Ref.{now}
+use mathlib.Core.Path.{ap, refl, sym, _∙_}
 use borrow.Author.Tests.{not-false, not-true}
 use Rattle.answers.specs.Outcomes.{outcomeOf, roomOf}
 use Rattle.kinds.specs.Coding.{decoded, judgedOctets}

@@ -1,9 +1,7 @@
 -- `readings::put_fields` meets its contract: one field after another.
-use mathlib.Core.Path.{_≡_, refl, ap, sym, _∙_}
-use Prim.Native.Nat.{_+_, _≤_}
+use mathlib.Core.Path.{sym, _∙_}
 use native.Mathlib.Omega.{arith}
-use lib.ListN.{length, length-drop, length-set, take, drop}
-use lib.Seq.{length-take-le}
+use lib.ListN.{length-set}
 use Rattle.der.proofs.Laws.Readings.{first-size, put-separated, second-size, third-size}
 use borrow.Author.Needs.{needs}
 use Rattle.der.proofs.readings.put_fields.Statement.{statement}

@@ -1,5 +1,5 @@
 -- `readings::read_element` meets its contract: the tag, and what follows it.
-use mathlib.Core.Path.{_≡_, refl, ap, sym, _∙_}
+use mathlib.Core.Path.{_≡_, sym, _∙_}
 use native.Mathlib.Omega.{arith}
 use borrow.Author.Tests.{not-false, not-true}
 use Rattle.der.specs.Readings.{readElement}

@@ -1,5 +1,4 @@
 -- `replies::element_reply` meets its contract: every result has its place in the buffer.
-use native.Mathlib.Omega.{arith}
 use Rattle.types.specs.Types.{noLimits}
 use Rattle.lines.specs.Lines.{asText}
 use Rattle.codec.proofs.Laws.Results.{der-decode-most}

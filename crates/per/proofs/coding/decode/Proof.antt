@@ -1,11 +1,13 @@
 -- `coding::decode` meets its contract: a type, octets that give a value, and what is judged of it.
-use mathlib.Core.Path.{_∙_, refl, sym}
+use mathlib.Core.Path.{refl, sym, _∙_}
 use denote.Ref.{now}
 use borrow.Author.Tests.{not-false, not-true}
 use Rattle.answers.specs.Outcomes.{outcomeOf, roomOf}
 use Rattle.kinds.specs.Coding.{decoded, judgedOctets}
 use Rattle.rows.specs.Readings.{readOctets}
-use Rattle.per.proofs.Laws.Per.{bits-read}
+use Rattle.values.proofs.Laws.Existing.{judged-held}
+use Rattle.values.proofs.Laws.Holding.{held}
+use Rattle.per.proofs.Laws.Per.{bits-read, per-judged-as}
 use borrow.Author.Needs.{needs}
 use Rattle.per.proofs.coding.decode.Statement.{statement}
 use Rattle.per.proofs.coding.decode.Tie as tie
@@ -45,12 +47,28 @@ returns-2 c = rw (sym (c .before .before .before .before .before .before .before
 judge-requires : tie.Need-judge-requires
 judge-requires c κs = search needs
 
+enum-known-admission : tie.Need-enum-known-admission
+enum-known-admission c = search needs
+
+compare-requires : tie.Need-compare-requires
+compare-requires c κs = held _ _ (judged-held _ _ _ (sym (c .before .before .before .before .judge .ensures) ∙ c .before .before .admission .given .1) .0) .0
+
+enum-known-admission-2 : tie.Need-enum-known-admission-2
+enum-known-admission-2 c = search needs
+
+refused-requires-3 : tie.Need-refused-requires-3
+refused-requires-3 c κs = search needs
+
 same-length : tie.Need-same-length
 same-length c = search needs
 
 returns-3 : tie.Need-returns-3
 unfolding decoded judgedOctets
-returns-3 c = rw (sym (c .before .before .before .before .before .before .before .before .before .before .before .well-formed .ensures) ∙ not-false _ (c .before .before .before .before .before .before .before .before .before .before .if1 .left), ← c .before .before .before .before .before .before .before .before .before .row-of .ensures, ← c .before .before .before .before .before .before .before .before .form .ensures, bits-read (readOctets (c .before .before .before .before .before .before .before .before .before .row-of .result) (c .before .before .before .before .before .before .before .before .form .result) (now (c .before .before .before .before .before .before .before .before .before .before .before .before .before .before .args .octets))), sym (c .before .before .before .before .before .before .before .unpack .ensures) ∙ c .before .before .before .before .before .value .given .1) (c .before .before .judge .ensures)
+returns-3 c = rw (sym (c .before .before .before .before .before .before .before .before .before .before .before .before .before .before .before .well-formed .ensures) ∙ not-false _ (c .before .before .before .before .before .before .before .before .before .before .before .before .before .before .if1 .left), ← c .before .before .before .before .before .before .before .before .before .before .before .before .before .row-of .ensures, ← c .before .before .before .before .before .before .before .before .before .before .before .before .form .ensures, bits-read (readOctets (c .before .before .before .before .before .before .before .before .before .before .before .before .before .row-of .result) (c .before .before .before .before .before .before .before .before .before .before .before .before .form .result) (now (c .before .before .before .before .before .before .before .before .before .before .before .before .before .before .before .before .before .before .args .octets))), sym (c .before .before .before .before .before .before .before .before .before .before .before .unpack .ensures) ∙ c .before .before .before .before .before .before .before .before .before .value .given .1, per-judged-as _ _ _, sym (c .before .before .before .before .before .before .before .judge .ensures) ∙ c .before .before .before .before .before .admission .given .1, judged-held _ _ _ (sym (c .before .before .before .before .before .before .before .judge .ensures) ∙ c .before .before .before .before .before .admission .given .1) .1) (c .before .before .compare .ensures)
+
+returns-4 : tie.Need-returns-4
+unfolding decoded judgedOctets outcomeOf roomOf
+returns-4 c = rw (sym (c .before .before .before .before .before .before .before .before .before .before .before .before .well-formed .ensures) ∙ not-false _ (c .before .before .before .before .before .before .before .before .before .before .before .if1 .left), ← c .before .before .before .before .before .before .before .before .before .before .row-of .ensures, ← c .before .before .before .before .before .before .before .before .before .form .ensures, bits-read (readOctets (c .before .before .before .before .before .before .before .before .before .before .row-of .result) (c .before .before .before .before .before .before .before .before .before .form .result) (now (c .before .before .before .before .before .before .before .before .before .before .before .before .before .before .before .args .octets))), sym (c .before .before .before .before .before .before .before .before .unpack .ensures) ∙ c .before .before .before .before .before .before .value .given .1, per-judged-as _ _ _, sym (c .before .before .before .before .judge .ensures) ∙ c .before .before .admission2 .given .1) (c .refused3 .ensures, refl)
 
 pub decode-spec : {M : Type 1} → statement M
 decode-spec =
@@ -67,5 +85,10 @@ decode-spec =
     refused-requires-2
     returns-2
     judge-requires
+    enum-known-admission
+    compare-requires
+    enum-known-admission-2
+    refused-requires-3
     same-length
-    returns-3)
+    returns-3
+    returns-4)
