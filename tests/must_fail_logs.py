@@ -1,8 +1,9 @@
 """Reads the log of each must-fail edit that `rt ci` tried. An edit that only made a proof file unfit for the
 code shows nothing: its first error is one of the messages below, and it is printed, with exit 1. A file of several
 wrong programs says of each at which proof it is refused, and at which need of it where two share a proof, and each of these
-must have an error that is none of those messages. Otherwise nothing is printed. Whether any other error is a fact that
-fails is for a reader to see."""
+must have an error that is none of those messages. A wrong definition is first refused by a law or by a demand, and not by the
+proof of a function that no longer agrees with it. Otherwise nothing is printed. Whether any other error is a fact that fails
+is for a reader to see."""
 
 import re
 import sys
@@ -13,6 +14,7 @@ UNFIT = re.compile(
     r"that can be named from here|is not in scope|but this has type `tie\.Need-|was not admitted|has no field|does not parse"
 )
 ERROR = re.compile(r"(\S+\.antt):\d+:\d+: error")
+LAW = re.compile(r"/proofs/(?:Laws/\w+|Demands)\.antt$")
 PART = re.compile(r"^# (\w+): refused at (\S+)(?: (\S+))?$", re.M)
 
 
@@ -26,10 +28,12 @@ def errors(log):
             yield found.group(1), "\n".join(lines[i:end])
 
 
-def faults(edit, log):
-    """What is wrong with an edit, given its text and its log."""
+def faults(edit, log, definition=False):
+    """What is wrong with an edit, given its text and its log, and whether it is one of definitions."""
     found = list(errors(log))
     parts = PART.findall(edit)
+    if definition and found and not LAW.search(found[0][0]):
+        yield f"no law refuses it first: {found[0][1][:300]}"
     if not parts and (not found or UNFIT.search(found[0][1])):
         yield f"only unfits a proof file: {(found[0][1] if found else 'no error')[:300]}"
     whole = {path for _, path, need in parts if not need}
@@ -55,6 +59,9 @@ def self_test():
     for edit, log, count in cases:
         if len(list(faults(edit, log))) != count:
             sys.exit(f"must_fail_logs.py does not find what it should: {edit!r} {log!r}")
+    law = fact.replace("a/Proof", "Laws/A")
+    if list(faults("", law + fact, True)) or not list(faults("", fact + law, True)):
+        sys.exit("must_fail_logs.py does not see which error is first")
 
 
 def main():
@@ -64,7 +71,8 @@ def main():
     for edit in edits:
         log = ROOT / "target/must-fail" / edit.parent.parent.name / edit.stem / ".log"
         text = log.read_text("utf-8", "replace") if log.exists() else ""
-        bad += [f"{edit.relative_to(ROOT)}: {fault}" for fault in faults(edit.read_text("utf-8"), text)]
+        found = faults(edit.read_text("utf-8"), text, edit.stem.startswith("definition"))
+        bad += [f"{edit.relative_to(ROOT)}: {fault}" for fault in found]
     print("\n".join(bad), end="\n" if bad else "")
     sys.exit(1 if bad or not edits else 0)
 
