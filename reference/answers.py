@@ -1,6 +1,7 @@
 """Answers of document 01, "The seven numbers": the number, the result and the bit count, in PER and in DER alike."""
 
-from texts import holds, value_exists
+from settings import is_refused, read_type
+from texts import canonical_text, holds, read_text, value_exists
 
 
 def refusal(number):
@@ -22,3 +23,33 @@ def judge_value(t, value):
     if not value_exists(value):
         return 4
     return 0 if holds(t, value) else 5
+
+
+def answer_on_text(type_text, limits, text, room_length, write):
+    """The number, the octets and the bit count of an encoding, which `write` makes of a type and a value; "When several
+    hold, the lowest number is given"."""
+    t = read_type(type_text, limits)
+    if is_refused(t):
+        return refusal(t)
+    value, _ = read_text(t, text) or (None, None)
+    number = judge_value(t, value)
+    if number != 0:
+        return refusal(number)
+    octets, bit_count = write(t, value)
+    return success(octets, bit_count, room_length)
+
+
+def answer_on_octets(type_text, limits, octets, room_length, read, write):
+    """The number, the text and the bit count of a decoding: `read` gives the value, or None for 3; 6 where the octets
+    are "not what the encoder writes"; "When several hold, the lowest number is given"."""
+    t = read_type(type_text, limits)
+    if is_refused(t):
+        return refusal(t)
+    value = read(t, octets)
+    number = judge_value(t, value)
+    if number != 0:
+        return refusal(number)
+    written, bit_count = write(t, value)
+    if written != octets:
+        return refusal(6)
+    return success(canonical_text(value), bit_count, room_length)

@@ -1,7 +1,6 @@
 """Checks convert_lines.py against document 01's example and hand-written replies, and that its lines ask for all."""
 
-import sys
-
+from checks import agree
 from convert_lines import all_lines, replies, reply
 
 # all that is read, all that is written
@@ -32,6 +31,38 @@ LINES = (
     (b"unper;DATE;0478", b"4"),
     (b"unper;DATE;C0818B5580", b"5"),
     (b"unper;DATE;055800", b"6"),
+    # the same in DER, with each number that it can give
+    (b"under;DATE;1F1F083230303630363133", b"0 2006-06-13"),
+    (b"under;DATE;1f1F083230303630363133", b"0 2006-06-13"),
+    (b"under;TIME-OF-DAY;1F2006323430303030", b"0 24:00:00"),
+    (b"under;DATE-TIME;1F210E3230303630363133313532373436", b"0 2006-06-13T15:27:46"),
+    (b"under;Basic=Date Date=YMD Year=Basic;0E0A323030362D30362D3133", b"0 2006-06-13"),
+    (b"under;Basic=Time Time=HMF1 Local-or-UTC=LD;0E0A31353A32372E352D3031", b"0 15:27.5-01"),
+    (b"under;Basic=Date Date=YMD;0E0A323030362D30362D3133", b"1"),
+    (b"under;DATE|DATE;1F1F083230303630363133", b"1"),
+    (b"under;Basic=Date Date=Y Year=Basic|Basic=Date Date=Y Year=L5;0E0432303036", b"2"),
+    (b"under;DATE;", b"3"),
+    (b"under;DATE;1F1F", b"3"),
+    (b"under;DATE;1F1F0832303036303631", b"3"),
+    (b"under;DATE;1F1F81083230303630363133", b"3"),
+    (b"under;DATE;1F1F0A323030362D30362D3133", b"3"),
+    (b"under;DATE;1F1F08323030363036313A", b"3"),
+    (b"under;DATE;0E0A323030362D30362D3133", b"3"),
+    (b"under;TIME-OF-DAY;1F1F083230303630363133", b"3"),
+    (b"under;Basic=Date Date=YMD Year=Basic;1F1F083230303630363133", b"3"),
+    (b"under;Basic=Date Date=YMD Year=Basic;0E083230303630363133", b"3"),
+    (b"under;DATE;1F1F083230303630323239", b"4"),
+    (b"under;DATE;1F1F083135303030323330", b"4"),
+    (b"under;DATE;1F1F083230303630323239FF", b"4"),
+    (b"under;DATE;1F1F083135383131323331", b"5"),
+    (b"under;DATE;1F1F083135383131323331FF", b"5"),
+    (b"under;Basic=Date Date=Y Year=L5;0E0432303036", b"5"),
+    (b"under;DATE;1F1F08323030363036313300", b"6"),
+    (b"under;Basic=Time Time=HMF1 Local-or-UTC=LD;0E0A31353A32372C352D3031", b"6"),
+    (b"under;Basic=Time Time=HMF1 Local-or-UTC=LD;0E0D31353A32372E352D30313A3030", b"6"),
+    # what PER writes is no DER, and the other way round
+    (b"under;DATE;0558", b"3"),
+    (b"unper;DATE;1F1F083230303630363133", b"3"),
     # "fewer than two semicolons"
     (b"per", b"?"),
     (b"per;DATE", b"?"),
@@ -39,16 +70,27 @@ LINES = (
     (b"per;DATE;", b"3"),
     (b"per;DATE;2006-06-13;", b"3"),
     (b"unper;DATE;0558;", b"?"),
+    (b"under", b"?"),
+    (b"under;1F1F083230303630363133", b"?"),
+    (b"under;DATE;1F1F083230303630363133;", b"?"),
+    (b"under;;", b"1"),
     # "an unknown work"
     (b";DATE;2006-06-13", b"?"),
     (b"Per;DATE;2006-06-13", b"?"),
     (b"per ;DATE;2006-06-13", b"?"),
     (b"ber;DATE;2006-06-13", b"?"),
-    (b"under;DATE;1F1F083230303630363133", b"?"),
+    (b"Under;DATE;1F1F083230303630363133", b"?"),
+    (b"under ;DATE;1F1F083230303630363133", b"?"),
+    (b"unders;DATE;1F1F083230303630363133", b"?"),
     # "hex input that isn't whole pairs of hex digits", whatever the type is
     (b"unper;DATE;0x0558", b"?"),
     (b"unper;DATE;05 58", b"?"),
     (b"unper;DATE;05G8", b"?"),
+    (b"under;DATE;1F1F08323030363036313", b"?"),
+    (b"under;DATE;1F 1F 08 32 30 30 36 30 36 31 33", b"?"),
+    (b"under;DATE;2006-06-13", b"?"),
+    (b"under;DATE;20060613", b"3"),
+    (b"under;nothing;2006-06-13", b"?"),
     (b"unper;nothing;5", b"?"),
     (b"unper;nothing;", b"1"),
     # "more than 1,024 octets"
@@ -57,6 +99,9 @@ LINES = (
     (b"unper;DATE;0558" + b"0" * 1008, b"6"),
     (b"unper;DATE ;" + b"0" * 1012, b"1"),
     (b"unper;DATE ;" + b"0" * 1013, b"?"),
+    (b"under;DATE ;1F1F083230303630363133" + b"0" * 990, b"1"),
+    (b"under;DATE;1F1F083230303630363133" + b"0" * 990, b"6"),
+    (b"under;DATE;1F1F083230303630363133" + b"0" * 992, b"?"),
     # refusals 1 and 2
     (b"der;DATE|DATE;2006-06-13", b"1"),
     (b"der;Basic=Date Date=Y Year=Basic|Basic=Date Date=Y Year=L5;2006", b"2"),
@@ -67,14 +112,8 @@ FIRST_WORDS = {
     b"per": {b"0", b"1", b"2", b"3", b"4", b"5", b"?"},
     b"der": {b"0", b"1", b"2", b"3", b"4", b"5", b"?"},
     b"unper": {b"0", b"1", b"2", b"3", b"4", b"5", b"6", b"?"},
-    b"under": {b"?"},
+    b"under": {b"0", b"1", b"2", b"3", b"4", b"5", b"6", b"?"},
 }
-
-
-def agree(found, expected, *what):
-    """Ends the program with a message when the two differ."""
-    if found != expected:
-        sys.exit("%s: found %r, expected %r" % (" ".join(map(str, what)), found, expected))
 
 
 def check_lines():
@@ -86,8 +125,10 @@ def check_lines():
         if work in found and semicolon:
             found[work].add(reply(each).split(b" ")[0])
     agree(found, FIRST_WORDS, "replies")
-    agree(len(set(lines)) >= 20000 and sum(map(len, lines)) < 4000000, True, "number of lines and octets")
-    agree({0, 1, 1023, 1024, 1025, 5000, 70000, 200000} <= set(map(len, lines)), True, "lengths")
+    agree(len(set(lines)) >= 20000 and len(lines) < 60000, True, "number of lines")
+    agree(sum(map(len, lines)) < 3200000, True, "number of octets")
+    agree({0, 1, 1023, 1024, 1025, 5000, 70000, 100000} <= set(map(len, lines)), True, "lengths")
+    agree(lines[:3], WHOLE[0][0].splitlines(), "first lines")
     agree(reply(lines[-1])[:2], b"0 ", "last line")
 
 

@@ -1,40 +1,19 @@
 """Checks der.py against hand-written cases from document 01's sentences, and against the vectors of an outside tool."""
 
 import itertools
-import sys
 
-from convert_lines import der_vectors
-from der import encode
-from settings import Limits, NO_LIMITS
+import der
+from checks import BOTH_LIMITS, EMPTY_WINDOW, NO_HOUR_24, ROOM, YEARS_2000_TO_2010, agree, check_refused, check_value
+from checks import H_L, HF1_L, HM_LD, HM_Z, HMF1_LD, HMS_L, HMSF3_L, YMD_T_HMS_L, YW_T_HMF1_LD
+from checks import Y_BASIC, Y_L5, Y_NEGATIVE, Y_PROLEPTIC, YD_BASIC, YM_BASIC, YMD_BASIC, YMD_PROLEPTIC, YW_BASIC
+from checks import YWD_BASIC
+from coding_lines import sample
+from elements import der_vectors
+from settings import NO_LIMITS
 from value_lines import DATES, DATE_TAILS, NAMES, TIMES, YEAR_CHOICES, ZONES
 from value_lines import date_time_type, date_type, time_text, time_type
 
-ROOM = 64
-
-YEARS_2000_TO_2010 = Limits((2000, 2010), False)
-NO_HOUR_24 = Limits(None, True)
-BOTH_LIMITS = Limits((2000, 2010), True)
-
-Y_BASIC = b"Basic=Date Date=Y Year=Basic"
-Y_PROLEPTIC = b"Basic=Date Date=Y Year=Proleptic"
-Y_NEGATIVE = b"Basic=Date Date=Y Year=Negative"
-Y_L5 = b"Basic=Date Date=Y Year=L5"
-YM_BASIC = b"Basic=Date Date=YM Year=Basic"
-YMD_BASIC = b"Basic=Date Date=YMD Year=Basic"
-YMD_PROLEPTIC = b"Basic=Date Date=YMD Year=Proleptic"
-YD_BASIC = b"Basic=Date Date=YD Year=Basic"
-YW_BASIC = b"Basic=Date Date=YW Year=Basic"
-YWD_BASIC = b"Basic=Date Date=YWD Year=Basic"
-H_L = b"Basic=Time Time=H Local-or-UTC=L"
-HM_Z = b"Basic=Time Time=HM Local-or-UTC=Z"
-HM_LD = b"Basic=Time Time=HM Local-or-UTC=LD"
-HMS_L = b"Basic=Time Time=HMS Local-or-UTC=L"
-HMF1_LD = b"Basic=Time Time=HMF1 Local-or-UTC=LD"
-HMSF3_L = b"Basic=Time Time=HMSF3 Local-or-UTC=L"
-YMD_T_HMS_L = b"Basic=Date-Time Date=YMD Year=Basic Time=HMS Local-or-UTC=L"
-YW_T_HMF1_LD = b"Basic=Date-Time Date=YW Year=Negative Time=HMF1 Local-or-UTC=LD"
-
-# limits, type, text, octets; with a room of exactly the result and of one octet less
+# limits, type, text, octets; both ways, with a room of exactly the result and of one octet less
 VALUES = (
     # "der;DATE;2006-06-13" and "0 1F1F083230303630363133"
     (NO_LIMITS, b"DATE", b"2006-06-13", "1F1F083230303630363133"),
@@ -84,7 +63,7 @@ VALUES = (
 )
 
 # limits, type, text, room, number
-REFUSED = (
+REFUSED_TEXTS = (
     # "settings unreadable, unknown, missing, repeated or not in the base; a restriction where it has no place"
     (NO_LIMITS, b"Basic=Date Date=Y", b"2006", ROOM, 1),
     (NO_LIMITS, b"DATE|DATE", b"2006-06-13", ROOM, 1),
@@ -123,24 +102,209 @@ REFUSED = (
     (NO_LIMITS, b"DATE", b"1581-12-31", 0, 5),
 )
 
+# limits, type, octets, room, number
+REFUSED_OCTETS = (
+    # "settings unreadable, unknown, missing, repeated or not in the base; a restriction where it has no place"
+    (NO_LIMITS, b"Basic=Date Date=Y", b"\x0E\x042006", ROOM, 1),
+    (NO_LIMITS, b"DATE|DATE", b"\x1F\x1F\x0820060613", ROOM, 1),
+    (NO_HOUR_24, b"DATE", b"\x1F\x1F\x0820060613", ROOM, 1),
+    (YEARS_2000_TO_2010, b"TIME-OF-DAY", b"\x1F\x20\x06152746", ROOM, 1),
+    # "two lists that don't make one row"
+    (NO_LIMITS, Y_BASIC + b"|" + Y_L5, b"\x0E\x042006", ROOM, 2),
+    # "tag wrong": none, a half, of another name, of a list for a name, of a name for a list
+    (NO_LIMITS, b"DATE", b"", ROOM, 3),
+    (NO_LIMITS, Y_BASIC, b"", ROOM, 3),
+    (NO_LIMITS, b"DATE", b"\x1F", ROOM, 3),
+    (NO_LIMITS, b"DATE", b"\x1F\x0820060613", ROOM, 3),
+    (NO_LIMITS, b"DATE", b"\x1F\x20\x0820060613", ROOM, 3),
+    (NO_LIMITS, b"DATE", b"\x1F\x21\x0820060613", ROOM, 3),
+    (NO_LIMITS, b"TIME-OF-DAY", b"\x1F\x1F\x06152746", ROOM, 3),
+    (NO_LIMITS, b"DATE-TIME", b"\x1F\x1F\x0E20060613152746", ROOM, 3),
+    (NO_LIMITS, b"DATE", b"\x0E\x0820060613", ROOM, 3),
+    (NO_LIMITS, b"DATE", b"\x0E\x0A2006-06-13", ROOM, 3),
+    (NO_LIMITS, YMD_BASIC, b"\x1F\x1F\x0820060613", ROOM, 3),
+    (NO_LIMITS, YMD_BASIC, b"\x1F\x1F\x0A2006-06-13", ROOM, 3),
+    (NO_LIMITS, YMD_BASIC, b"\x1F\x0E\x0A2006-06-13", ROOM, 3),
+    # constructed, of another class, of GeneralizedTime, none but the contents
+    (NO_LIMITS, YMD_BASIC, b"\x2E\x0A2006-06-13", ROOM, 3),
+    (NO_LIMITS, b"DATE", b"\x3F\x1F\x0820060613", ROOM, 3),
+    (NO_LIMITS, YMD_BASIC, b"\x8E\x0A2006-06-13", ROOM, 3),
+    (NO_LIMITS, YMD_BASIC, b"\x18\x0A2006-06-13", ROOM, 3),
+    (NO_LIMITS, YMD_BASIC, b"2006-06-13", ROOM, 3),
+    # "the DER length above 127": of the indefinite form, and in two octets and in three
+    (NO_LIMITS, YMD_BASIC, b"\x0E\x802006-06-13\x00\x00", ROOM, 3),
+    (NO_LIMITS, b"DATE", b"\x1F\x1F\x81\x0820060613", ROOM, 3),
+    (NO_LIMITS, YMD_BASIC, b"\x0E\x81\x0A2006-06-13", ROOM, 3),
+    (NO_LIMITS, YMD_BASIC, b"\x0E\x82\x00\x0A2006-06-13", ROOM, 3),
+    (NO_LIMITS, YMD_BASIC, b"\x0E\x80" + b"2006-06-13" * 20, ROOM, 3),
+    (NO_LIMITS, YMD_BASIC, b"\x0E\xFF" + b"2006-06-13" * 30, ROOM, 3),
+    # "missing, or above the octets that follow"
+    (NO_LIMITS, b"DATE", b"\x1F\x1F", ROOM, 3),
+    (NO_LIMITS, YMD_BASIC, b"\x0E", ROOM, 3),
+    (NO_LIMITS, b"DATE", b"\x1F\x1F\x08", ROOM, 3),
+    (NO_LIMITS, b"DATE", b"\x1F\x1F\x082006061", ROOM, 3),
+    (NO_LIMITS, b"DATE", b"\x1F\x1F\x0920060613", ROOM, 3),
+    (NO_LIMITS, YMD_BASIC, b"\x0E\x0B2006-06-13", ROOM, 3),
+    (NO_LIMITS, YMD_BASIC, b"\x0E\x7F2006-06-13", ROOM, 3),
+    # "Under these three tags the contents are 8, 6 or 14 digits; any other octet or count is refusal 3"
+    (NO_LIMITS, b"DATE", b"\x1F\x1F\x00", ROOM, 3),
+    (NO_LIMITS, b"DATE", b"\x1F\x1F\x0020060613", ROOM, 3),
+    (NO_LIMITS, b"DATE", b"\x1F\x1F\x072006061", ROOM, 3),
+    (NO_LIMITS, b"DATE", b"\x1F\x1F\x0720060613", ROOM, 3),
+    (NO_LIMITS, b"DATE", b"\x1F\x1F\x09200606130", ROOM, 3),
+    (NO_LIMITS, b"DATE", b"\x1F\x1F\x06200606", ROOM, 3),
+    (NO_LIMITS, b"DATE", b"\x1F\x1F\x0A2006-06-13", ROOM, 3),
+    (NO_LIMITS, b"DATE", b"\x1F\x1F\x082006-6-1", ROOM, 3),
+    (NO_LIMITS, b"DATE", b"\x1F\x1F\x08-0440315", ROOM, 3),
+    (NO_LIMITS, b"DATE", b"\x1F\x1F\x09-00440315", ROOM, 3),
+    (NO_LIMITS, b"DATE", b"\x1F\x1F\x082006061:", ROOM, 3),
+    (NO_LIMITS, b"DATE", b"\x1F\x1F\x08/0060613", ROOM, 3),
+    (NO_LIMITS, b"DATE", b"\x1F\x1F\x08 2006061", ROOM, 3),
+    (NO_LIMITS, b"DATE", b"\x1F\x1F\x082006061\xB3", ROOM, 3),
+    (NO_LIMITS, b"TIME-OF-DAY", b"\x1F\x20\x051527460", ROOM, 3),
+    (NO_LIMITS, b"TIME-OF-DAY", b"\x1F\x20\x07152746Z", ROOM, 3),
+    (NO_LIMITS, b"TIME-OF-DAY", b"\x1F\x20\x0815:27:46", ROOM, 3),
+    (NO_LIMITS, b"TIME-OF-DAY", b"\x1F\x20\x0615:27:", ROOM, 3),
+    (NO_LIMITS, b"TIME-OF-DAY", b"\x1F\x20\x0815274650", ROOM, 3),
+    (NO_LIMITS, b"DATE-TIME", b"\x1F\x21\x0F20060613T152746", ROOM, 3),
+    (NO_LIMITS, b"DATE-TIME", b"\x1F\x21\x132006-06-13T15:27:46", ROOM, 3),
+    (NO_LIMITS, b"DATE-TIME", b"\x1F\x21\x0E20060613T15274", ROOM, 3),
+    (NO_LIMITS, b"DATE-TIME", b"\x1F\x21\x0820060613", ROOM, 3),
+    # "the text or the DER contents are not of the type's form"
+    (NO_LIMITS, Y_BASIC, b"\x0E\x00", ROOM, 3),
+    (NO_LIMITS, Y_BASIC, b"\x0E\x032006", ROOM, 3),
+    (NO_LIMITS, Y_BASIC, b"\x0E\x052006 ", ROOM, 3),
+    (NO_LIMITS, Y_BASIC, b"\x0E\x06\"2006\"", ROOM, 3),
+    (NO_LIMITS, Y_BASIC, b"\x0E\x072006-06", ROOM, 3),
+    (NO_LIMITS, YMD_BASIC, b"\x0E\x0820060613", ROOM, 3),
+    (NO_LIMITS, YW_BASIC, b"\x0E\x082006-164", ROOM, 3),
+    (NO_LIMITS, Y_NEGATIVE, b"\x0E\x05-0000", ROOM, 3),
+    (NO_LIMITS, Y_L5, b"\x0E\x06+02006", ROOM, 3),
+    (NO_LIMITS, HMSF3_L, b"\x0E\x0B15:27:46.50", ROOM, 3),
+    (NO_LIMITS, HMSF3_L, b"\x0E\x0D15:27:46.5000", ROOM, 3),
+    (NO_LIMITS, HM_Z, b"\x0E\x0815:27+00", ROOM, 3),
+    (NO_LIMITS, HM_LD, b"\x0E\x0615:27Z", ROOM, 3),
+    (NO_LIMITS, HM_LD, b"\x0E\x0A15:27+01:0", ROOM, 3),
+    (NO_LIMITS, YMD_T_HMS_L, b"\x0E\x132006-06-13 15:27:46", ROOM, 3),
+    # "no such date, time or difference"
+    (NO_LIMITS, b"DATE", b"\x1F\x1F\x0820060229", ROOM, 4),
+    (NO_LIMITS, YMD_BASIC, b"\x0E\x0A2006-02-29", ROOM, 4),
+    (NO_LIMITS, YW_BASIC, b"\x0E\x082021-W53", ROOM, 4),
+    (NO_LIMITS, b"TIME-OF-DAY", b"\x1F\x20\x06240001", ROOM, 4),
+    (NO_LIMITS, b"DATE-TIME", b"\x1F\x21\x0E20060613240001", ROOM, 4),
+    (NO_LIMITS, b"DATE-TIME", b"\x1F\x21\x0E20060229152746", ROOM, 4),
+    (NO_LIMITS, HM_LD, b"\x0E\x0815:27-00", ROOM, 4),
+    (NO_LIMITS, HM_LD, b"\x0E\x0B15:27-00:30", ROOM, 4),
+    (NO_LIMITS, HM_LD, b"\x0E\x0815:27+16", ROOM, 4),
+    # "a field of the right digit count is of the form at any number, so month 13, weekday 8 or hour 25 is 4"
+    (NO_LIMITS, b"DATE", b"\x1F\x1F\x0820061301", ROOM, 4),
+    (NO_LIMITS, b"DATE", b"\x1F\x1F\x0820060000", ROOM, 4),
+    (NO_LIMITS, b"DATE", b"\x1F\x1F\x0800000000", ROOM, 4),
+    (NO_LIMITS, b"DATE", b"\x1F\x1F\x0899999999", ROOM, 4),
+    (NO_LIMITS, b"TIME-OF-DAY", b"\x1F\x20\x06250000", ROOM, 4),
+    (NO_LIMITS, b"TIME-OF-DAY", b"\x1F\x20\x06156000", ROOM, 4),
+    (NO_LIMITS, b"TIME-OF-DAY", b"\x1F\x20\x06152761", ROOM, 4),
+    (NO_LIMITS, YWD_BASIC, b"\x0E\x0A2006-W24-8", ROOM, 4),
+    (NO_LIMITS, YD_BASIC, b"\x0E\x082006-999", ROOM, 4),
+    (NO_LIMITS, H_L, b"\x0E\x0225", ROOM, 4),
+    # "a year 0000 to 1581 is refusal 5"
+    (NO_LIMITS, b"DATE", b"\x1F\x1F\x0815811231", ROOM, 5),
+    (NO_LIMITS, b"DATE", b"\x1F\x1F\x0800000229", ROOM, 5),
+    (NO_LIMITS, b"DATE-TIME", b"\x1F\x21\x0E15811231235960", ROOM, 5),
+    # "a year of another setting than the type's is refusal 5"
+    (NO_LIMITS, Y_BASIC, b"\x0E\x041581", ROOM, 5),
+    (NO_LIMITS, Y_BASIC, b"\x0E\x05-0001", ROOM, 5),
+    (NO_LIMITS, Y_PROLEPTIC, b"\x0E\x041582", ROOM, 5),
+    (NO_LIMITS, Y_NEGATIVE, b"\x0E\x06+10000", ROOM, 5),
+    (NO_LIMITS, Y_L5, b"\x0E\x042006", ROOM, 5),
+    # "year window, hour 24"; "A lowest year above the highest makes a type with no values."
+    (YEARS_2000_TO_2010, b"DATE", b"\x1F\x1F\x0819991231", ROOM, 5),
+    (YEARS_2000_TO_2010, b"DATE", b"\x1F\x1F\x0820110101", ROOM, 5),
+    (YEARS_2000_TO_2010, Y_BASIC, b"\x0E\x042011", ROOM, 5),
+    (EMPTY_WINDOW, b"DATE", b"\x1F\x1F\x0820050613", ROOM, 5),
+    (NO_HOUR_24, b"TIME-OF-DAY", b"\x1F\x20\x06240000", ROOM, 5),
+    (NO_HOUR_24, H_L, b"\x0E\x0224", ROOM, 5),
+    (BOTH_LIMITS, b"DATE-TIME", b"\x1F\x21\x0E20060613240000", ROOM, 5),
+    (BOTH_LIMITS, b"DATE-TIME", b"\x1F\x21\x0E20110613152746", ROOM, 5),
+    # "DER contents with a comma or `:00` count as of the form, so they meet 6 and not 3."
+    (NO_LIMITS, HMSF3_L, b"\x0E\x0C15:27:46,500", ROOM, 6),
+    (NO_LIMITS, HF1_L, b"\x0E\x0424,0", ROOM, 6),
+    (NO_LIMITS, HM_LD, b"\x0E\x0B15:27+01:00", ROOM, 6),
+    (NO_LIMITS, HM_LD, b"\x0E\x0B15:27+00:00", ROOM, 6),
+    (NO_LIMITS, HMF1_LD, b"\x0E\x0D15:27,5-01:00", ROOM, 6),
+    (NO_LIMITS, YW_T_HMF1_LD, b"\x0E\x17-0044-W11T15:27.5-01:00", ROOM, 6),
+    # "octets left over"
+    (NO_LIMITS, b"DATE", b"\x1F\x1F\x0820060613\x00", ROOM, 6),
+    (NO_LIMITS, b"DATE", b"\x1F\x1F\x08200606130", ROOM, 6),
+    (NO_LIMITS, b"DATE", b"\x1F\x1F\x0820060613" * 2, ROOM, 6),
+    (NO_LIMITS, b"TIME-OF-DAY", b"\x1F\x20\x06152746Z", ROOM, 6),
+    (NO_LIMITS, b"DATE-TIME", b"\x1F\x21\x0E20060613152746\x1F", ROOM, 6),
+    (NO_LIMITS, Y_BASIC, b"\x0E\x042006-06", ROOM, 6),
+    (NO_LIMITS, Y_BASIC, b"\x0E\x042006" + b"\x00" * 200, ROOM, 6),
+    (NO_LIMITS, HM_LD, b"\x0E\x0815:27+01:00", ROOM, 6),
+    (NO_LIMITS, HMSF3_L, b"\x0E\x0C15:27:46,500\x00", ROOM, 6),
+    # "the lent room is shorter than the result": the text with its separators
+    (NO_LIMITS, b"DATE", b"\x1F\x1F\x0820060613", 0, 7),
+    (NO_LIMITS, b"DATE", b"\x1F\x1F\x0820060613", 8, 7),
+    (NO_LIMITS, b"DATE", b"\x1F\x1F\x0820060613", 9, 7),
+    (NO_LIMITS, b"DATE-TIME", b"\x1F\x21\x0E20060613152746", 18, 7),
+    # "When several hold, the lowest number is given.": 1 and 2 with all others
+    (NO_LIMITS, b"", b"", 0, 1),
+    (NO_HOUR_24, b"DATE", b"\x1F\x1F\x0820060229\x00", 0, 1),
+    (NO_HOUR_24, Y_BASIC + b"|" + Y_L5, b"\x0E\x042006", 0, 1),
+    (NO_LIMITS, Y_BASIC + b"|" + Y_L5, b"", 0, 2),
+    (NO_LIMITS, Y_BASIC + b"|" + Y_L5, b"\x0E\x042006\x00", 0, 2),
+    # 3 with 4: a date that is none before a field of another form, and before a tag, a length or an end that is wrong
+    (NO_LIMITS, b"DATE-TIME", b"\x1F\x21\x0E2006022915274Z", ROOM, 3),
+    (NO_LIMITS, YMD_T_HMS_L, b"\x0E\x102006-02-29T15:27", ROOM, 3),
+    (NO_LIMITS, b"DATE", b"\x0E\x0820060229", ROOM, 3),
+    (NO_LIMITS, b"DATE", b"\x1F\x1F\x0920060229", ROOM, 3),
+    (NO_LIMITS, b"DATE", b"\x1F\x1F\x88" + b"20060229" * 20, ROOM, 3),
+    # 3 with 5
+    (NO_LIMITS, b"DATE-TIME", b"\x1F\x21\x0E1066101415274Z", ROOM, 3),
+    (NO_LIMITS, Y_BASIC, b"\x0E\x051066-", ROOM, 3),
+    (YEARS_2000_TO_2010, b"DATE", b"\x0E\x0820110101", ROOM, 3),
+    (NO_HOUR_24, b"TIME-OF-DAY", b"\x1F\x20\x07240000", ROOM, 3),
+    # 3 with 6
+    (NO_LIMITS, HMSF3_L, b"\x0E\x0B15:27:46,50", ROOM, 3),
+    (NO_LIMITS, HMF1_LD, b"\x0E\x0A15:27,5+1:", ROOM, 3),
+    (NO_LIMITS, HM_LD, b"\x0E\x0C15:27+01:00Z", ROOM, 3),
+    (NO_LIMITS, HMSF3_L, b"\x1F\x20\x0C15:27:46,500", ROOM, 3),
+    (NO_LIMITS, b"DATE", b"\x1F\x1F\x082006061Z\x00", ROOM, 3),
+    (NO_LIMITS, b"DATE", b"\x1F\x1F\x072006061\x00", ROOM, 3),
+    # 3 with 7
+    (NO_LIMITS, b"DATE", b"", 0, 3),
+    (NO_LIMITS, b"DATE", b"\x1F\x1F\x092006061", 0, 3),
+    # 4 with 5
+    (NO_LIMITS, b"DATE", b"\x1F\x1F\x0815000230", ROOM, 4),
+    (NO_LIMITS, YMD_BASIC, b"\x0E\x0B-0001-02-29", ROOM, 4),
+    (YEARS_2000_TO_2010, b"DATE", b"\x1F\x1F\x0820110229", ROOM, 4),
+    (EMPTY_WINDOW, b"DATE", b"\x1F\x1F\x0820050229", ROOM, 4),
+    (NO_HOUR_24, b"TIME-OF-DAY", b"\x1F\x20\x06240001", ROOM, 4),
+    (BOTH_LIMITS, b"DATE-TIME", b"\x1F\x21\x0E20110613240001", ROOM, 4),
+    # 4 with 6
+    (NO_LIMITS, b"DATE", b"\x1F\x1F\x0820060229\x00", ROOM, 4),
+    (NO_LIMITS, HF1_L, b"\x0E\x0424,5", ROOM, 4),
+    (NO_LIMITS, HM_LD, b"\x0E\x0B15:27-00:00", ROOM, 4),
+    (NO_LIMITS, HM_LD, b"\x0E\x0B15:27+16:00", ROOM, 4),
+    # 4 with 7
+    (NO_LIMITS, b"DATE", b"\x1F\x1F\x0820060229", 0, 4),
+    # 5 with 6
+    (NO_LIMITS, b"DATE", b"\x1F\x1F\x0815811231\x00", ROOM, 5),
+    (YEARS_2000_TO_2010, Y_BASIC, b"\x0E\x042011\x00", ROOM, 5),
+    (NO_HOUR_24, HF1_L, b"\x0E\x0424,0", ROOM, 5),
+    (YEARS_2000_TO_2010, YW_T_HMF1_LD, b"\x0E\x17-0044-W11T15:27.5-01:00", ROOM, 5),
+    # 5 with 7, 6 with 7
+    (NO_LIMITS, b"DATE", b"\x1F\x1F\x0815811231", 0, 5),
+    (NO_LIMITS, b"DATE", b"\x1F\x1F\x0820060613\x00", 0, 6),
+    (NO_LIMITS, HMSF3_L, b"\x0E\x0C15:27:46,500", 0, 6),
+)
+
 # a year of each setting with the most octets
 LONGEST_YEARS = {b"Basic": b"2006", b"Proleptic": b"1066", b"Negative": b"-0044", b"L5": b"-12006"}
 
 # `-12006-06-13T23:59:60.999999999+15:59`
 LONGEST_CONTENTS = 37
-
-
-def agree(found, expected, *what):
-    """Ends the program with a message when the two differ."""
-    if found != expected:
-        sys.exit("%s: found %r, expected %r" % (" ".join(map(str, what)), found, expected))
-
-
-def check_value(limits, type_text, text, octets):
-    """A room of exactly the result, and one that "is shorter than the result"."""
-    room = len(octets)
-    agree(encode(type_text, limits, text, room), (0, octets, 0), limits, type_text, text)
-    agree(encode(type_text, limits, text, room - 1), (7, b"", 0), limits, type_text, text, "room", room - 1)
 
 
 def longest_texts():
@@ -160,31 +324,70 @@ def check_lengths():
     """"one octet of length (0 to 127)": the one after the tag, at the most 127, and so many octets follow."""
     longest = 0
     for type_text, text in longest_texts():
-        number, octets, bits = encode(type_text, NO_LIMITS, text, ROOM)
-        agree((number, octets, bits), (0, b"\x0E" + bytes([len(text)]) + text, 0), type_text, text)
-        agree(octets[1] <= 127, True, type_text, text)
-        longest = max(longest, octets[1])
+        agree(len(text) <= 127, True, type_text, text)
+        check_value(der, NO_LIMITS, type_text, text, b"\x0E" + bytes([len(text)]) + text, 0)
+        longest = max(longest, len(text))
     agree(longest, LONGEST_CONTENTS, "longest contents")
 
 
 def check_vectors():
-    """The outside tool's vectors, of each name and of the most octets."""
+    """The outside tool's vectors both ways, of each name and of the most octets."""
     vectors = list(der_vectors())
     lengths = {octets[1] for type_text, _, octets in vectors if type_text not in NAMES}
     agree(len(vectors) >= 600 and LONGEST_CONTENTS in lengths, True, "vectors are there")
     agree({type_text for type_text, _, _ in vectors} >= set(NAMES), True, "names are there")
     for type_text, text, octets in vectors:
-        agree(encode(type_text, NO_LIMITS, text, ROOM), (0, octets, 0), "vector", type_text, text)
+        check_value(der, NO_LIMITS, type_text, text, octets, 0)
+
+
+def replacements(octets):
+    """The octets themselves, and with each of them replaced by every other."""
+    for place, other in itertools.product(range(len(octets)), range(256)):
+        yield octets[:place] + bytes([other]) + octets[place + 1:]
+
+
+def accepted(type_text, questions):
+    """Those of the octets that the decoder takes; each of them is what the encoder writes for the text it gives."""
+    taken = set()
+    for octets in questions:
+        number, text, bits = der.decode(type_text, NO_LIMITS, octets, ROOM)
+        agree(number in (0, 3, 4, 5, 6) and bits == 0, True, "number", type_text, octets)
+        if number == 0:
+            agree(der.encode(type_text, NO_LIMITS, text, ROOM), (0, octets, 0), "again", type_text, octets)
+            taken.add(octets)
+    return taken
+
+
+def written(type_text, texts):
+    """What the encoder writes for those of the texts that it takes."""
+    answers = (der.encode(type_text, NO_LIMITS, text, ROOM) for text in texts)
+    return {octets for number, octets, _ in answers if number == 0}
+
+
+def check_changes(type_text, text):
+    """6 is given for what is "not what the encoder writes": of all elements with one octet replaced, the decoder takes
+    those that the encoder writes for a text with one octet replaced. A cut element is refusal 3, a longer one 6."""
+    _, octets, _ = der.encode(type_text, NO_LIMITS, text, ROOM)
+    changed = set(replacements(octets))
+    agree(accepted(type_text, changed), written(type_text, replacements(text)) & changed, "changes of", type_text, text)
+    for length in range(len(octets)):
+        check_refused(der.decode, NO_LIMITS, type_text, octets[:length], ROOM, 3)
+    for other in range(256):
+        check_refused(der.decode, NO_LIMITS, type_text, octets + bytes([other]), ROOM, 6)
 
 
 def main():
     """Ends with a message at the first disagreement; prints nothing when there is none."""
     for limits, type_text, text, octets in VALUES:
-        check_value(limits, type_text, text, bytes.fromhex(octets))
-    for limits, type_text, text, room, number in REFUSED:
-        agree(encode(type_text, limits, text, room), (number, b"", 0), limits, type_text, text, "room", room)
+        check_value(der, limits, type_text, text, bytes.fromhex(octets), 0)
+    for limits, type_text, text, room, number in REFUSED_TEXTS:
+        check_refused(der.encode, limits, type_text, text, room, number)
+    for limits, type_text, octets, room, number in REFUSED_OCTETS:
+        check_refused(der.decode, limits, type_text, octets, room, number)
     check_lengths()
     check_vectors()
+    for type_text, text in itertools.islice(sample(), 0, None, 2):
+        check_changes(type_text, text)
 
 
 if __name__ == "__main__":

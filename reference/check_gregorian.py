@@ -1,9 +1,9 @@
 """Checks gregorian.py ("What exists") against datetime and calendar, and outside 1 to 9999 by walking from there."""
 
 import calendar
-import sys
 from datetime import date, timedelta
 
+from checks import agree
 from gregorian import exists, leap_year, month_length, new_year, weekday, weeks_in_year, year_length
 
 # 2000 to 2027 hold each weekday of 1 January in a common and in a leap year
@@ -22,12 +22,6 @@ FAR_YEARS = (
 )
 
 NO_MONTHS = (-2147483648, -12, -1, 0, 13, 14, 255, 256, 257, 268, 2147483648, 4294967295)
-
-
-def agree(found, expected, *what):
-    """Ends the program with a message when the two differ."""
-    if found != expected:
-        sys.exit("%s: found %r, expected %r" % (" ".join(map(str, what)), found, expected))
 
 
 def is_made(make, *fields):

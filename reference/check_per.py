@@ -1,32 +1,10 @@
 """Checks per.py against "Checked values" and hand-written cases from document 01's sentences."""
 
-import sys
-
-from per import decode, encode
-from settings import Limits, NO_LIMITS
-
-ROOM = 64
-
-YEARS_2000_TO_2010 = Limits((2000, 2010), False)
-NO_HOUR_24 = Limits(None, True)
-
-Y_BASIC = b"Basic=Date Date=Y Year=Basic"
-Y_PROLEPTIC = b"Basic=Date Date=Y Year=Proleptic"
-Y_NEGATIVE = b"Basic=Date Date=Y Year=Negative"
-Y_L5 = b"Basic=Date Date=Y Year=L5"
-YMD_PROLEPTIC = b"Basic=Date Date=YMD Year=Proleptic"
-YD_BASIC = b"Basic=Date Date=YD Year=Basic"
-YW_BASIC = b"Basic=Date Date=YW Year=Basic"
-YWD_BASIC = b"Basic=Date Date=YWD Year=Basic"
-H_L = b"Basic=Time Time=H Local-or-UTC=L"
-H_Z = b"Basic=Time Time=H Local-or-UTC=Z"
-H_LD = b"Basic=Time Time=H Local-or-UTC=LD"
-HF1_L = b"Basic=Time Time=HF1 Local-or-UTC=L"
-HF2_L = b"Basic=Time Time=HF2 Local-or-UTC=L"
-HF2_LD = b"Basic=Time Time=HF2 Local-or-UTC=LD"
-HF4_L = b"Basic=Time Time=HF4 Local-or-UTC=L"
-HMSF3_L = b"Basic=Time Time=HMSF3 Local-or-UTC=L"
-HMSF4_L = b"Basic=Time Time=HMSF4 Local-or-UTC=L"
+import per
+from checks import NO_HOUR_24, ROOM, YEARS_2000_TO_2010, check_refused, check_value
+from checks import H_L, H_LD, H_Z, HF1_L, HF2_L, HF2_LD, HF4_L, HMSF3_L, HMSF4_L
+from checks import Y_BASIC, Y_L5, Y_NEGATIVE, Y_PROLEPTIC, YD_BASIC, YMD_PROLEPTIC, YW_BASIC, YWD_BASIC
+from settings import NO_LIMITS
 
 # type, text, octets, bit count; both ways, and with a room of one octet less than the result
 VALUES = (
@@ -171,31 +149,14 @@ REFUSED_OCTETS = (
 )
 
 
-def agree(found, expected, *what):
-    """Ends the program with a message when the two differ."""
-    if found != expected:
-        sys.exit("%s: found %r, expected %r" % (" ".join(map(str, what)), found, expected))
-
-
-def check_value(type_text, text, octets, bits):
-    """Both ways with a room of exactly the result, and with a room that "is shorter than the result"."""
-    room, back = len(octets), len(text)
-    agree(encode(type_text, NO_LIMITS, text, room), (0, octets, bits), "encode", type_text, text)
-    agree(encode(type_text, NO_LIMITS, text, room - 1), (7, b"", 0), "encode", type_text, text, "room", room - 1)
-    agree(decode(type_text, NO_LIMITS, octets, back), (0, text, bits), "decode", type_text, octets.hex())
-    found = decode(type_text, NO_LIMITS, octets, back - 1)
-    agree(found, (7, b"", 0), "decode", type_text, octets.hex(), "room", back - 1)
-
-
 def main():
     """Ends with a message at the first disagreement; prints nothing when there is none."""
     for type_text, text, octets, bits in VALUES:
-        check_value(type_text, text, bytes.fromhex(octets), bits)
+        check_value(per, NO_LIMITS, type_text, text, bytes.fromhex(octets), bits)
     for limits, type_text, text, room, number in REFUSED_TEXTS:
-        agree(encode(type_text, limits, text, room), (number, b"", 0), "encode", limits, type_text, text, "room", room)
+        check_refused(per.encode, limits, type_text, text, room, number)
     for limits, type_text, octets, room, number in REFUSED_OCTETS:
-        found = decode(type_text, limits, bytes.fromhex(octets), room)
-        agree(found, (number, b"", 0), "decode", limits, type_text, octets, "room", room)
+        check_refused(per.decode, limits, type_text, bytes.fromhex(octets), room, number)
 
 
 if __name__ == "__main__":

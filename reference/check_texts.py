@@ -1,29 +1,10 @@
 """Checks settings.py and texts.py against hand-written cases from document 01's sentences and "Checked values"."""
 
-import sys
-
-from settings import Limits, NO_LIMITS, fraction_digits, is_refused, read_type, same_rows
+from checks import EMPTY_WINDOW, NO_HOUR_24, YEARS_2000_TO_2010, agree
+from checks import H_L, HF1_L, HM_LD, HM_Z, HMSF3_L, HMSF4_L, YW_T_HM_LD
+from checks import Y_BASIC, Y_L5, Y_NEGATIVE, Y_PROLEPTIC, YD_BASIC, YMD_PROLEPTIC, YW_BASIC, YWD_BASIC
+from settings import NO_LIMITS, fraction_digits, is_refused, read_type, same_rows
 from texts import judge, read_text
-
-YEARS_2000_TO_2010 = Limits((2000, 2010), False)
-EMPTY_WINDOW = Limits((2010, 2000), False)
-NO_HOUR_24 = Limits(None, True)
-
-Y_BASIC = b"Basic=Date Date=Y Year=Basic"
-Y_PROLEPTIC = b"Basic=Date Date=Y Year=Proleptic"
-Y_NEGATIVE = b"Basic=Date Date=Y Year=Negative"
-Y_L5 = b"Basic=Date Date=Y Year=L5"
-YMD_PROLEPTIC = b"Basic=Date Date=YMD Year=Proleptic"
-YD_BASIC = b"Basic=Date Date=YD Year=Basic"
-YW_BASIC = b"Basic=Date Date=YW Year=Basic"
-YWD_BASIC = b"Basic=Date Date=YWD Year=Basic"
-H_L = b"Basic=Time Time=H Local-or-UTC=L"
-HM_LD = b"Basic=Time Time=HM Local-or-UTC=LD"
-HM_Z = b"Basic=Time Time=HM Local-or-UTC=Z"
-HF1_L = b"Basic=Time Time=HF1 Local-or-UTC=L"
-HMSF3_L = b"Basic=Time Time=HMSF3 Local-or-UTC=L"
-HMSF4_L = b"Basic=Time Time=HMSF4 Local-or-UTC=L"
-YW_T_HM_LD = b"Basic=Date-Time Date=YW Year=Basic Time=HM Local-or-UTC=LD"
 
 # limits, type, text, number, canonical text
 TEXTS = (
@@ -169,12 +150,6 @@ ROWS = (
     # "the same Local-or-UTC"
     (HM_LD, HM_Z, False, 0, 0),
 )
-
-
-def agree(found, expected, *what):
-    """Ends the program with a message when the two differ."""
-    if found != expected:
-        sys.exit("%s: found %r, expected %r" % (" ".join(map(str, what)), found, expected))
 
 
 def main():

@@ -1,9 +1,10 @@
 """Test lines on unaligned PER and DER, and the replies that document 01 settles.
 
 `WLR;TYPE;INPUT` asks for the number of "The seven numbers" and, after 0, the bit count and the result. W is `e` to
-encode INPUT, a text, in PER, `t` to encode it in DER, or `d` to decode it from PER, octets as whole pairs of hex digits;
-L is one octet of value_lines.py's menu of limits; R is the room: `a` to `z` are 0 to 25 octets, `A` to `Z` are 26 to 51,
-`*` is 64. TYPE ends at the second semicolon, and INPUT is all that follows. Any other line has the reply `?`.
+encode INPUT, a text, in PER, `t` to encode it in DER, `d` to decode it from PER, octets as whole pairs of hex digits,
+or `u` to decode such octets from DER; L is one octet of value_lines.py's menu of limits; R is the room: `a` to `z` are
+0 to 25 octets, `A` to `Z` are 26 to 51, `*` is 64. TYPE ends at the second semicolon, and INPUT is all that follows.
+Any other line has the reply `?`.
 """
 
 import itertools
@@ -13,11 +14,13 @@ import sys
 from pathlib import Path
 
 import der
+import elements
 import per
 import value_lines
+from elements import element
 from per import DAY_TIME_FIELDS, fill, free_integer_bits, free_integer_length, number_bits, octet_bits
 from per import read_octets, value_bits
-from settings import NO_LIMITS, is_refused, read_type
+from settings import is_refused, read_type
 from texts import read_text
 from value_lines import DATES, DATE_TAILS, MENU, TIMES, WINDOWS, YEAR_CHOICES, ZONES
 from value_lines import date_time_type, date_type, time_text, time_type
@@ -56,13 +59,23 @@ DIFFERENCES = (
 
 
 def encode_line(type_text, text, limits=b"0", room=b"*"):
-    """A line that asks to encode a text."""
+    """A line that asks to encode a text in PER."""
     return b"e" + limits + room + b";" + type_text + b";" + text
 
 
 def decode_line(type_text, octets, limits=b"0", room=b"*"):
-    """A line that asks to decode octets."""
+    """A line that asks to decode octets from PER."""
     return b"d" + limits + room + b";" + type_text + b";" + octets.hex().upper().encode()
+
+
+def element_line(type_text, octets, limits=b"0", room=b"*"):
+    """A line that asks to decode octets from DER."""
+    return b"u" + decode_line(type_text, octets, limits, room)[1:]
+
+
+def element_lines(questions, limits=b"0", room=b"*"):
+    """Lines that ask to decode octets from DER, each under its type."""
+    return (element_line(type_text, octets, limits, room) for type_text, octets in questions)
 
 
 def bits_line(type_text, bits, limits=b"0", room=b"*"):
@@ -383,11 +396,50 @@ def rooms():
 
 
 def rooms_in_der():
-    """Rooms of no octet, too short by one, exact and longer by one, in DER."""
+    """Rooms of no octet, too short by one, exact and longer by one, in DER, both ways."""
     for type_text, text in sample():
-        _, octets, _ = der.encode(type_text, NO_LIMITS, text, 64)
+        octets = element(type_text, text)
         for length in sorted({0, 1, len(octets) - 1, len(octets), len(octets) + 1}):
             yield b"t" + encode_line(type_text, text, room=ROOM_OF[length])[1:]
+        for length in sorted({0, 1, len(octets), len(text) - 1, len(text), len(text) + 1}):
+            yield element_line(type_text, octets, room=ROOM_OF[length])
+    for room in sorted(ROOMS):
+        yield element_line(b"DATE-TIME", element(b"DATE-TIME", b"2006-06-13T15:27:46"), b"9", room)
+        yield element_line(time_type(b"HMSF1", b"LD"), element(time_type(b"HMSF1", b"LD"), b"15:27:46.5+01"), room=room)
+        yield element_line(time_type(b"HMSF1", b"LD"), element(time_type(b"HMSF1", b"LD"), b"15:27:46,5+01"), room=room)
+
+
+def changed_elements():
+    """Elements cut at every place, lengthened, and with octets replaced; other tags, and other lengths."""
+    for k, (type_text, text) in enumerate(sample()):
+        yield element_line(type_text, element(type_text, text))
+        if k % 2 == 0:
+            yield from element_lines(elements.changed(type_text, text))
+        if k % 3 == 0:
+            yield from element_lines(elements.with_other_tags(type_text, text))
+            yield from element_lines(elements.with_long_lengths(type_text, text))
+    for name, text in elements.NAME_TEXTS.items():
+        yield from element_lines(elements.changed(name, text), room=ROOM_OF[len(text)])
+        yield from element_lines(elements.with_other_tags(name, text), room=b"a")
+
+
+def lengths_of_elements():
+    """Every number in the length octet, with and without octets behind, and longer contents."""
+    some = [*elements.NAME_TEXTS.items(), (date_type(b"Y", *L5), b"+12006"), (time_type(b"HM", b"LD"), b"15:27-01:30")]
+    for k, (type_text, text) in enumerate(some):
+        yield from element_lines(elements.with_every_length(type_text, text, (b"", b"0" * 9)[k % 2]))
+        yield from element_lines(elements.with_longer_contents(type_text, text))
+    yield from element_lines(elements.with_every_length(date_type(b"Y", *BASIC), b"2006", b"0" * 255))
+
+
+def names_in_elements():
+    """Contents under the three names' tags, and the names' elements under other types."""
+    yield from element_lines(elements.under_names())
+    yield from element_lines(elements.readings_of_names())
+    for type_text, octets in elements.fields_under_names():
+        yield from (element_line(type_text, octets, limits) for limits in (b"0", b"1", b"8", b"9"))
+    for name, text in elements.NAME_TEXTS.items():
+        yield from element_lines(elements.with_every_tag(name, text))
 
 
 def causes_in_octets():
@@ -416,6 +468,36 @@ def causes_in_octets():
         yield decode_line(type_text, octets, limits, b"a")
         yield decode_line(type_text, octets + b"\x00", limits, b"z")
         yield decode_line(type_text, octets[:-1], limits)
+
+
+def causes_in_elements():
+    """Two and more causes in one element: "When several hold, the lowest number is given"."""
+    type_text = date_time_type(b"YMD", BASIC, b"HMSF2", b"LD")
+    dates = (b"2006-06-13", b"2006-02-29", b"2006-13-01", b"1066-06-13", b"1066-02-30", b"-0001-02-29",
+             b"+12006-06-13", b"2006-6-13")
+    times = (b"12:00:00.00+00", b"12:00:00,50+00", b"12:00:00.50+01:00", b"12:00:00,50+01:00", b"24:00:00.00+00",
+             b"24:00:00,00-01:00", b"24:00:00.01+00", b"24:00:00,01+01:00", b"12:60:00,00+00", b"12:00:00,00+16:00",
+             b"12:00:00,00-00:00", b"12:00:00,5+01:00", b"12:00:00,50Z")
+    for date, time, limits in itertools.product(dates, times, (b"0", b"9")):
+        octets = element(type_text, date + b"T" + time)
+        yield element_line(type_text, octets, limits)
+        yield element_line(type_text, octets, limits, b"a")
+        yield element_line(type_text, octets + b"\x00", limits, b"z")
+        yield element_line(type_text, octets[:-1], limits)
+
+
+def causes_in_names():
+    """Two and more causes in one element of a name: tag, length, digits, value, limits, octets left over, room."""
+    dates, times = (b"20060613", b"20060229", b"19991231", b"10660230", b"2006061Z"), (b"152746", b"240000", b"240001")
+    starts = (b"\x1F\x21\x0E", b"\x1F\x1F\x0E", b"\x1F\x21\x0F", b"\x1F\x21\x0D", b"\x1F\x21\x8E")
+    ends = (b"", b"\x00")
+    for date, time, start, end in itertools.product(dates, times, starts, ends):
+        for limits, room in itertools.product((b"0", b"1", b"8", b"9"), (b"*", b"a")):
+            yield element_line(b"DATE-TIME", start + date + time + end, limits, room)
+    for limits, room in itertools.product((b"0", b"1", b"8"), (b"a", b"b", b"*")):
+        for type_text in (b"DATE", b"TIME-OF-DAY", b"DATE|DATE", date_type(b"Y", b"Basic", b"L5"), b""):
+            for contents in (b"20060229", b"15811231", b"20110101", b"20060613", b"2006"):
+                yield element_line(type_text, b"\x1F\x1F\x08" + contents + b"\x00", limits, room)
 
 
 def causes_in_years():
@@ -488,6 +570,16 @@ def cross_table():
         yield decode_line(type_text, octets, limits)
 
 
+def cross_table_in_der():
+    """A writer's element under a reader's type, of the same tag and of another."""
+    names = {date_type(b"YMD", *BASIC_PROLEPTIC): b"DATE", b"TIME-OF-DAY": time_type(b"HMS", b"L"),
+             b"DATE-TIME": date_time_type(b"YMD", BASIC, b"HMS", b"L")}
+    written = [element(*each) for each in itertools.chain(writers(), itertools.islice(sample(), 0, None, 4))]
+    written += [element(names[type_text], text) for type_text, text in writers() if type_text in names]
+    for k, ((limits, type_text), octets) in enumerate(itertools.product(readers(), written)):
+        yield element_line(type_text, octets, limits, (b"*", b"*", b"a")[k % 3])
+
+
 def refused_types():
     """Types with refusal 1 or 2, with inputs that would be good, of no form, or empty, both ways."""
     y, hms = date_type(b"Y", b"Basic"), time_type(b"HMS", b"L")
@@ -501,6 +593,8 @@ def refused_types():
         if b"\n" not in type_text and b";" not in type_text:
             yield encode_line(type_text, (b"2006", b"", b"2006-06-13", b"x")[k % 4], room=(b"*", b"a")[k % 2])
             yield decode_line(type_text, (b"\x05\x58", b"", b"\x04", b"\xff" * 9)[k % 4], room=(b"a", b"*")[k % 2])
+            octets = (b"\x0E\x042006", b"", b"\x1F\x1F\x0820060613", b"\x0E\x042006\x00")[k % 4]
+            yield element_line(type_text, octets, room=(b"*", b"a")[k % 2])
 
 
 def restrictions_without_place():
@@ -513,6 +607,7 @@ def restrictions_without_place():
         yield from both_ways(type_text, text, limits)
         yield encode_line(type_text, b"", limits)
         yield decode_line(type_text, b"", limits)
+        yield element_line(type_text, b"", limits)
 
 
 class Numbers:
@@ -567,6 +662,17 @@ def any_value(numbers):
     ))
 
 
+def any_element(numbers, type_text, text):
+    """An element with one or two of its octets replaced, or octets of any number behind the start of one."""
+    octets = element(type_text, text)
+    if numbers.below(4) == 0:
+        return octets[:numbers.below(5)] + bytes(numbers.below(256) for _ in range(numbers.below(10)))
+    for _ in range(1 + numbers.below(2)):
+        place, other = numbers.below(len(octets)), numbers.one_of(b"0123456789-+:.,TWZ%c" % numbers.below(256))
+        octets = octets[:place] + bytes([other]) + octets[place + 1:]
+    return octets
+
+
 def any_values():
     """Values of every form with fields of any number, both ways."""
     numbers = Numbers(1)
@@ -588,12 +694,30 @@ def any_octets():
         yield decode_line(type_text, number.to_bytes(len(octets), "big"))
 
 
+def any_elements():
+    """Types of the cross table with elements of the sample that are changed, and with octets of any number."""
+    numbers = Numbers(5)
+    types, values = list(readers()), list(sample())
+    for _ in range(500):
+        limits, type_text = numbers.one_of(types)
+        yield element_line(type_text, any_element(numbers, *numbers.one_of(values)), limits)
+    for _ in range(900):
+        type_text, text = numbers.one_of(values)
+        yield element_line(type_text, any_element(numbers, type_text, text), room=numbers.one_of((b"*", b"*", b"k")))
+
+
 def long_inputs():
     """Inputs that make a line of 1,024 octets, or nearly so."""
     for type_text, octets in itertools.islice(sample_octets(), 0, None, 5):
         count = (LONGEST_LINE - len(decode_line(type_text, octets))) // 2
         yield from (decode_line(type_text, octets + bytes([other]) * count) for other in (0x00, 0xFF))
         yield decode_line(type_text, b"\xff" * (count + len(octets)))
+    for type_text, text in itertools.islice(sample(), 0, None, 5):
+        octets = element(type_text, text)
+        count = (LONGEST_LINE - len(element_line(type_text, octets))) // 2
+        yield from (element_line(type_text, octets + bytes([other]) * count) for other in (0x00, 0x30, 0xFF))
+        yield element_line(type_text, octets[:1] + b"\x7F" * (count + len(octets) - 1))
+        yield element_line(type_text, octets[:2] + b"0" * (count + len(octets) - 2))
     for type_text, text in itertools.islice(sample(), 0, None, 7):
         for other in (b"0", b" ", b"\x00", b"\xff"):
             yield encode_line(type_text, text + other * (LONGEST_LINE - len(encode_line(type_text, text))))
@@ -603,11 +727,11 @@ def long_inputs():
 
 def small_hex():
     """Hex digits in small letters, and in small ones and capitals."""
-    for type_text, octets in itertools.islice(sample_octets(), 0, None, 4):
-        whole = decode_line(type_text, octets)
-        start = whole[:len(whole) - 2 * len(octets)]
-        yield start + octets.hex().encode()
-        yield start + b"".join(b"%x%X" % (octet >> 4, octet & 15) for octet in octets)
+    questions = [(b"d0*;" + type_text, octets) for type_text, octets in sample_octets()]
+    questions += [(b"u0*;" + type_text, element(type_text, text)) for type_text, text in sample()]
+    for start, octets in questions[::4]:
+        yield start + b";" + octets.hex().encode()
+        yield start + b";" + b"".join(b"%x%X" % (octet >> 4, octet & 15) for octet in octets)
 
 
 def other_lines():
@@ -629,19 +753,38 @@ def other_lines():
         b"d0*;;0558", b"e0*;;", b"e0*;;;", b"e0*;;2006-06-13", b"e0*;DATE;", b"e0*;DATE;;", b"e0*;DATE;2006-06-13;",
         b"e0*;DATE;2006-06-13\r", b"e0*;DATE ;2006-06-13", b"e0*; DATE;2006-06-13", b"e0*;DATE; 2006-06-13",
         b'e0*;DATE;"2006-06-13"', b"e0*;DA;TE;2006-06-13", b"e0*:DATE:2006-06-13", b"e0*,DATE,2006-06-13", b"0" * 1024,
-        b";" * 1024, b"\r",
+        b";" * 1024, b"\r", b"u", b"u0*", b"u0*;", b"u0*;DATE", b"u;;", b"u0*;;", b"u0*;;5", b"u0*;DATE;",
+        b"u0*;DATE;;",
+        b"U0*;DATE;1F1F083230303630363133", b"u0;DATE;1F1F083230303630363133", b"u*;DATE;1F1F083230303630363133",
+        b"u0**;DATE;1F1F083230303630363133", b"0u*;DATE;1F1F083230303630363133", b"ua*;DATE;1F1F083230303630363133",
+        b"u0?;DATE;1F1F083230303630363133", b"u0*;DATE;1F1F08323030363036313", b"u0*;DATE;1F1F083230303630363133;",
+        b"u0*;DATE;1F 1F 08 32 30 30 36 30 36 31 33", b"u0*;DATE;1F1F083230303630363133 ", b"u0*;DATE;2006-06-13",
+        b"u0*;DATE; 1F1F083230303630363133", b"u0*;DATE;1F1F083230303630363133\r", b"u0*;DATE;0x1F1F08",
+        b"u0*;DATE;1G1F083230303630363133", b"u0*;DATE|DATE;5", b"u0*;nothing;zz", b"u8*;DATE;5", b"u0a;DATE;5",
+        b"under;DATE;1F1F083230303630363133", b"u0*;;1F1F083230303630363133", b"u0*;DATE;\x1F\x1F\x0820060613",
+        b"u0*;DATE;;1F1F083230303630363133", b"u0*; DATE;1F1F083230303630363133", b"u0*;DATE ;1F1F083230303630363133",
     )
     for octet in (bytes([number]) for number in range(256) if number != 0x0A):
         yield b"d0*;DATE;055" + octet
         yield b"e0" + octet + b";DATE;1748-12-31"
+        yield b"u0*;DATE;1F1F08323030363036313" + octet
+        yield b"u0" + octet + b";DATE;1F1F083137343831323331"
 
 
 def vectors():
-    """The outside tool's vectors, both ways."""
+    """The outside tool's vectors of PER, both ways."""
     for line_of_file in VECTORS.read_bytes().splitlines():
         type_text, text, octets = line_of_file.split(b";")
         yield b"e0*;" + type_text + b";" + text
         yield b"d0*;" + type_text + b";" + octets
+
+
+def vectors_of_der():
+    """The outside tool's vectors of DER, both ways, and their octets as PER."""
+    for type_text, text, octets in elements.der_vectors():
+        yield b"t" + encode_line(type_text, text)[1:]
+        yield element_line(type_text, octets)
+        yield decode_line(type_text, octets)
 
 
 def last_line():
@@ -651,17 +794,22 @@ def last_line():
 
 SECTIONS = (
     checked_values, year_ends, near_years, fractions, whole_times, differences, difference_fields, date_times, windows,
-    no_hour_24, boundaries, changed_octets, filling, free_integers, free_integer_lengths, other_choice, fraction_fields,
-    fractions_at_hour_24, date_fields, time_fields, rooms, rooms_in_der, causes_in_octets, causes_in_years, causes_in_texts, cross_table,
-    refused_types, restrictions_without_place, any_values, any_octets, long_inputs, small_hex, vectors, other_lines, last_line,
+    no_hour_24, boundaries, changed_octets, filling, free_integers, free_integer_lengths, other_choice,
+    fraction_fields, fractions_at_hour_24, date_fields, time_fields, rooms, rooms_in_der, changed_elements,
+    lengths_of_elements, names_in_elements, causes_in_octets, causes_in_elements, causes_in_names, causes_in_years,
+    causes_in_texts, cross_table, cross_table_in_der, refused_types, restrictions_without_place, any_values,
+    any_octets, any_elements, long_inputs, small_hex, vectors, vectors_of_der, other_lines, last_line,
 )
 
 
 def in_der(lines):
-    """The lines that encode in PER, asked in DER."""
+    """For each line that encodes in PER, the same in DER, and the reading of elements with its text."""
     for each in lines:
-        if each[:1] == b"e":
+        parts = each.split(b";", 2)
+        if each[:1] == b"e" and len(parts) == 3:
             yield b"t" + each[1:]
+            for octets in elements.spellings(*parts[1:]):
+                yield b"u" + decode_line(parts[1], octets, parts[0][1:2], parts[0][2:])[1:]
 
 
 def all_lines():
@@ -679,14 +827,15 @@ def reply_on_text(encode, type_text, limits, text, room):
     return b"0 %d %s" % (bits, octets.hex().upper().encode()) if number == 0 else b"%d" % number
 
 
-def reply_on_octets(type_text, limits, octets, room):
+def reply_on_octets(decode, type_text, limits, octets, room):
     """The number of a decoding and, after 0, the bit count and the text."""
-    number, text, bits = per.decode(type_text, limits, octets, room)
+    number, text, bits = decode(type_text, limits, octets, room)
     return b"0 %d %s" % (bits, text) if number == 0 else b"%d" % number
 
 
-# what encodes a text
+# what encodes a text, and what decodes octets
 ENCODERS = {b"e": per.encode, b"t": der.encode}
+DECODERS = {b"d": per.decode, b"u": der.decode}
 
 
 def reply(question):
@@ -699,6 +848,7 @@ def reply(question):
         return b"?"
     if work in ENCODERS:
         return reply_on_text(ENCODERS[work], parts[1], MENU[limits], parts[2], ROOMS[room])
-    if work == b"d" and HEX.fullmatch(parts[2]):
-        return reply_on_octets(parts[1], MENU[limits], bytes.fromhex(parts[2].decode("ascii")), ROOMS[room])
+    if work in DECODERS and HEX.fullmatch(parts[2]):
+        octets = bytes.fromhex(parts[2].decode("ascii"))
+        return reply_on_octets(DECODERS[work], parts[1], MENU[limits], octets, ROOMS[room])
     return b"?"

@@ -8,23 +8,22 @@ which is not counted, and the last one need not. Types have no limits, and the r
 import itertools
 import sys
 from collections import namedtuple
-from pathlib import Path
 
 import der
 import per
 import coding_lines
+import elements
 import value_lines
 from lines import split_lines
 from per import fill
 from coding_lines import BASIC, BASIC_PROLEPTIC, HEX, L5, LONGEST_LINE, NEGATIVE, NEGATIVE_L5, PROLEPTIC, bits_of
+from elements import der_vectors, element
 from settings import NO_LIMITS
 from value_lines import DATES, DATE_TAILS, TIMES, WHOLE_TIMES, YEAR_CHOICES, ZONES
 from value_lines import date_time_type, date_type, time_text, time_type
 
 # more octets than any result has
 ROOM = 64
-
-DER_VECTORS = Path(__file__).resolve().parent.parent / "vectors" / "der.txt"
 
 # how the input is read, what is done with it, and how the result is written
 Work = namedtuple("Work", "read convert write")
@@ -45,11 +44,12 @@ def to_hex(octets):
     return octets.hex().upper().encode()
 
 
-# "work per, der, unper or under; hex input for the last two"; under is not known yet
+# "work per, der, unper or under; hex input for the last two"
 WORKS = {
     b"per": Work(as_it_stands, per.encode, to_hex),
     b"der": Work(as_it_stands, der.encode, to_hex),
     b"unper": Work(from_hex, per.decode, as_it_stands),
+    b"under": Work(from_hex, der.decode, as_it_stands),
 }
 
 
@@ -73,7 +73,8 @@ def replies(octets):
 
 
 # the works that are asked for in turn
-THREE_WORKS = (b"per", b"der", b"unper")
+FOUR_WORKS = (b"per", b"der", b"unper", b"under")
+IN_DER = (b"der", b"under")
 
 # a year of each setting, common and of 52 weeks
 COMMON_YEARS = {b"Basic": b"2006", b"Proleptic": b"1066", b"Negative": b"-0043", b"L5": b"+12007"}
@@ -88,6 +89,9 @@ YEARS_TO_READ = {
     ),
     NEGATIVE_L5: (b"-0001", b"-0128", b"-0129", b"-9999", b"-10000", b"-99999", b"+10000", b"+32768", b"+99999"),
 }
+
+# the choices of years of a type that reads
+READERS_YEARS = (BASIC, PROLEPTIC, NEGATIVE, L5, BASIC_PROLEPTIC, NEGATIVE_L5)
 
 # types and texts whose octets, texts and types are changed
 SAMPLE = (
@@ -127,13 +131,32 @@ def unper_line(type_text, octets):
     return line(b"unper", type_text, to_hex(octets))
 
 
+def under_line(type_text, octets):
+    """A line that reads octets as DER."""
+    return line(b"under", type_text, to_hex(octets))
+
+
+def under_lines(questions):
+    """Lines that read octets as DER, each under its type."""
+    return (under_line(type_text, octets) for type_text, octets in questions)
+
+
+def good_input(work, type_text, text):
+    """The text itself for the works that write, and what it is written as for those that read."""
+    if work == b"unper":
+        return to_hex(fill(bits_of(type_text, text)))
+    return to_hex(element(type_text, text)) if work == b"under" else text
+
+
 def all_works(type_text, text):
-    """Lines that write a text in PER and in DER, and one that reads what its value is written as in PER."""
+    """Lines that write a text in PER and in DER, and lines that read what its value is written as, in DER also with
+    the text as it stands."""
     yield line(b"per", type_text, text)
     yield line(b"der", type_text, text)
     bits = bits_of(type_text, text)
     if bits is not None:
         yield unper_line(type_text, fill(bits))
+    yield from (under_line(type_text, octets) for octets in elements.spellings(type_text, text))
 
 
 def without_limits(section):
@@ -154,21 +177,10 @@ def of_coding_lines(section, step):
 
 
 def in_turn(questions):
-    """Each type with its text in one of three works, in turn; for unper the octets of the text itself."""
+    """Each type with its text in one of four works, in turn; for the last two the octets of the text itself."""
     for k, (type_text, text) in enumerate(questions):
-        work = THREE_WORKS[k % 3]
-        yield line(work, type_text, to_hex(text) if work == b"unper" else text)
-
-
-def der_vectors():
-    """The types, texts and octets of the outside tool."""
-    type_text = None
-    for line_of_file in DER_VECTORS.read_bytes().splitlines():
-        if b";" in line_of_file:
-            text, digits = line_of_file.split(b";")
-            yield type_text, text, from_hex(digits)
-        else:
-            type_text = line_of_file
+        work = FOUR_WORKS[k % 4]
+        yield line(work, type_text, to_hex(text) if work in (b"unper", b"under") else text)
 
 
 def first_lines():
@@ -183,31 +195,42 @@ def checked_values():
 
 
 def good_values():
-    """Each date with each choice of years, each time with each zone, and many date-times, in every work."""
-    for section in (value_lines.good_dates(), value_lines.good_times(), value_lines.good_date_times()):
-        for type_text, text in without_limits(section):
-            yield from all_works(type_text, text)
+    """Each date with each choice of years, each time with each zone, and many date-times: all in DER, the date-times in
+    PER in part."""
+    for type_text, text in without_limits(itertools.chain(value_lines.good_dates(), value_lines.good_times())):
+        yield from all_works(type_text, text)
+    for k, (type_text, text) in enumerate(without_limits(value_lines.good_date_times())):
+        yield from (each for each in all_works(type_text, text) if k % 3 == 0 or each.split(b";")[0] in IN_DER)
 
 
 def vectors():
-    """The outside tools' vectors: those of DER, some of them as octets for PER, and some of PER both ways."""
+    """The outside tools' vectors: those of DER both ways, some of them as octets for PER, and some of PER both ways and
+    as octets for DER."""
     for k, (type_text, text, octets) in enumerate(der_vectors()):
         yield line(b"der", type_text, text)
+        yield under_line(type_text, octets)
         if k % 5 == 0:
             yield unper_line(type_text, octets)
-    yield from of_coding_lines(coding_lines.vectors(), 9)
+    for k, each in enumerate(of_coding_lines(coding_lines.vectors(), 13)):
+        yield each
+        if k % 8 == 1:
+            yield each.replace(b"unper", b"under")
 
 
 def boundaries():
-    """Dates, times and differences below, at and above their ends: all in DER, some in every work."""
+    """Dates, times and differences below, at and above their ends: a third in every work, the others in DER, written
+    or read."""
     questions = itertools.chain(
         value_lines.date_boundaries(), value_lines.month_boundaries(), value_lines.week_boundaries(),
         value_lines.time_boundaries(), value_lines.fractions_at_hour_24(), value_lines.differences(),
     )
     for k, (type_text, text) in enumerate(without_limits(questions)):
-        yield line(b"der", type_text, text)
         if k % 3 == 0:
             yield from all_works(type_text, text)
+        if k % 3 == 1:
+            yield line(b"der", type_text, text)
+        if k % 3 == 2:
+            yield under_line(type_text, element(type_text, text))
 
 
 def other_forms():
@@ -215,6 +238,8 @@ def other_forms():
     questions = itertools.chain(value_lines.year_shapes(), value_lines.cross_table())
     for k, (type_text, text) in enumerate(without_limits(questions)):
         yield line((b"der", b"per")[k % 2], type_text, text)
+        if k % 4 == 0:
+            yield from under_lines((type_text, octets) for octets in elements.spellings(type_text, text))
 
 
 def dates_to_refuse(date, years):
@@ -249,7 +274,7 @@ def types_to_refuse():
         yield dates_to_refuse(date, years)
     for time, zone in itertools.product(TIMES, ZONES):
         yield times_to_refuse(time, zone)
-    for date, years, time, zone in itertools.islice(value_lines.some_date_times(), 0, None, 3):
+    for date, years, time, zone in itertools.islice(value_lines.some_date_times(), 0, None, 11):
         yield date_times_to_refuse(date, years, time, zone)
 
 
@@ -262,17 +287,21 @@ def refusals():
         yield line(b"per", type_text, text + b"0")
         yield line(b"der", type_text, text[:-1])
         yield from (unper_line(type_text, octets[:-1]), unper_line(type_text, octets + b"\x00"))
+        octets = element(type_text, text)
+        yield from (under_line(type_text, octets[:-1]), under_line(type_text, octets + b"\x00"))
         other = (date_type(b"Y", b"Basic"), date_type(b"YW", b"L5"), time_type(b"HF7", b"L"))[k // 3 % 3]
-        for other_type in (type_text + b" ", type_text + b"|" + other):
-            yield from in_turn([(other_type, text)] * 3)
+        for step, other_type in enumerate((type_text + b" ", type_text + b"|" + other)):
+            for work in (FOUR_WORKS[(k + step) % 4], FOUR_WORKS[(k + step + 1) % 4]):
+                yield line(work, other_type, good_input(work, type_text, text))
 
 
 def other_spellings():
-    """"full stop for comma; the difference's minutes dropped when 0", in PER and in DER."""
+    """"full stop for comma; the difference's minutes dropped when 0", in PER and in DER; in octets "they meet 6"."""
     differences = (b"+00:00", b"+01:00", b"-01:00", b"-15:00", b"+09:00", b"-00:00", b"+16:00", b"+01:01", b"-01")
     for time, mark, difference in itertools.product(TIMES[::2], (b".", b","), differences):
-        for work in (b"per", b"der"):
-            yield line(work, time_type(time, b"LD"), time_text(time, (b"15", b"27", b"46"), b"500", difference, mark))
+        type_text, text = time_type(time, b"LD"), time_text(time, (b"15", b"27", b"46"), b"500", difference, mark)
+        yield from (line(b"per", type_text, text), line(b"der", type_text, text))
+        yield under_line(type_text, element(type_text, text))
     for time, zone in itertools.product(TIMES[3:], (b"L", b"Z")):
         text = time_text(time, (b"24", b"00", b"00"), b"0", value_lines.zone_texts(zone)[0], b",")
         yield from all_works(time_type(time, zone), text)
@@ -302,8 +331,8 @@ def changed_types():
         changed = itertools.chain(cut, value_lines.deletions(type_text), value_lines.replacements(type_text, others),
                                   value_lines.insertions(type_text, others[1:2]))
         for k, each in enumerate(changed):
-            work = THREE_WORKS[k % 3]
-            yield line(work, each, to_hex(fill(bits_of(type_text, text))) if work == b"unper" else text)
+            work = FOUR_WORKS[k % 4]
+            yield line(work, each, good_input(work, type_text, text))
 
 
 def changed_octets():
@@ -316,16 +345,37 @@ def changed_octets():
             yield unper_line(type_text, changed)
 
 
+def changed_elements():
+    """Elements cut at every place, lengthened, and with octets replaced; other tags, and other lengths."""
+    for type_text, text in SAMPLE[:3] + SAMPLE[3::3]:
+        yield from under_lines(elements.changed(type_text, text))
+        yield from under_lines(elements.with_other_tags(type_text, text))
+        yield from under_lines(elements.with_long_lengths(type_text, text))
+    for type_text, text in SAMPLE[:4] + SAMPLE[12:13]:
+        yield from under_lines(elements.with_every_length(type_text, text))
+    for type_text, text in SAMPLE[1:4:2]:
+        yield from under_lines(elements.with_longer_contents(type_text, text))
+        yield from under_lines(elements.with_every_tag(type_text, text))
+
+
+def names_in_elements():
+    """Contents under the three names' tags, and the names' elements under other types."""
+    for section in (elements.under_names(), elements.fields_under_names(), elements.readings_of_names()):
+        yield from under_lines(section)
+
+
 def dates_in_octets():
     """Encodings of dates under every choice of years, and under types of other rows."""
     other_rows = [date_type(date, *years) for date, years in itertools.product(DATES, (BASIC, NEGATIVE_L5))]
     other_rows += [time_type(b"HMS", b"L"), time_type(b"HF3", b"LD"), b"DATE-TIME", b"DATE", b"TIME-OF-DAY"]
     for date, writer in itertools.product(DATES, YEARS_TO_READ):
-        readers = [date_type(date, *years) for years in YEAR_CHOICES]
+        readers = [date_type(date, *years) for years in READERS_YEARS]
         for k, year in enumerate(YEARS_TO_READ[writer]):
-            octets = fill(bits_of(date_type(date, *writer), year + DATE_TAILS[date]))
+            written, text = date_type(date, *writer), year + DATE_TAILS[date]
+            octets = fill(bits_of(written, text))
             for type_text in readers + other_rows[k % 4::4]:
                 yield unper_line(type_text, octets)
+                yield under_line(type_text, element(written, text))
 
 
 def times_in_octets():
@@ -334,34 +384,36 @@ def times_in_octets():
         end = value_lines.zone_texts(zone)[1 if zone == b"LD" else 0]
         for n, digits in itertools.product(range(1, 10), (b"01", b"8")):
             written = b"%sF%d" % (time, n)
-            octets = fill(bits_of(time_type(written, zone), time_text(written, (b"23", b"59", b"60"), digits, end)))
-            for m in range(1, 10):
-                yield unper_line(time_type(b"%sF%d" % (time, m), zone), octets)
-            for other in (b"H", b"HM", b"HMS"):
-                yield unper_line(time_type(other, ZONES[n % 3]), octets)
+            type_text, text = time_type(written, zone), time_text(written, (b"23", b"59", b"60"), digits, end)
+            readers = [time_type(b"%sF%d" % (time, m), zone) for m in range(1, 10)]
+            readers += [time_type(other, ZONES[n % 3]) for other in (b"H", b"HM", b"HMS")]
+            for reader in readers:
+                yield unper_line(reader, fill(bits_of(type_text, text)))
+                if digits == b"8":
+                    yield under_line(reader, element(type_text, text))
 
 
 def date_times_in_octets():
     """Encodings of date-times under other years, times and zones."""
-    for k, (date, years, time, zone) in enumerate(itertools.islice(value_lines.some_date_times(), 2, None, 7)):
+    for k, (date, years, time, zone) in enumerate(itertools.islice(value_lines.some_date_times(), 2, None, 11)):
         clock = time_text(time, (b"12", b"34", b"56"), b"9", value_lines.zone_texts(zone)[-1])
         text = COMMON_YEARS[years[-1]] + DATE_TAILS[date] + b"T" + clock
-        octets = fill(bits_of(date_time_type(date, years, time, zone), text))
-        for other in YEAR_CHOICES:
-            yield unper_line(date_time_type(date, other, time, zone), octets)
-        yield unper_line(date_time_type(DATES[k % 6], years, time, zone), octets)
-        yield unper_line(date_time_type(date, years, TIMES[k % 30], zone), octets)
-        yield unper_line(date_time_type(date, years, time, ZONES[k % 3]), octets)
-        yield from (unper_line(date_type(date, *years), octets), unper_line(time_type(time, zone), octets))
+        written = date_time_type(date, years, time, zone)
+        readers = [date_time_type(date, other, time, zone) for other in READERS_YEARS]
+        readers += [date_time_type(DATES[k % 6], years, time, zone), date_time_type(date, years, TIMES[k % 30], zone)]
+        readers += [date_time_type(date, years, time, ZONES[k % 3]), date_type(date, *years), time_type(time, zone)]
+        for reader in readers:
+            yield unper_line(reader, fill(bits_of(written, text)))
+            yield under_line(reader, element(written, text))
 
 
 def fields_in_octets():
     """Fields of PER at and above their ends, free integers of every length, and filling."""
     for section, step in (
-        (coding_lines.near_years(), 5), (coding_lines.difference_fields(), 3), (coding_lines.filling(), 1),
-        (coding_lines.free_integers(), 4), (coding_lines.free_integer_lengths(), 4), (coding_lines.other_choice(), 2),
-        (coding_lines.fraction_fields(), 5), (coding_lines.fractions_at_hour_24(), 1), (coding_lines.date_fields(), 4),
-        (coding_lines.time_fields(), 5), (coding_lines.causes_in_octets(), 1),
+        (coding_lines.near_years(), 7), (coding_lines.difference_fields(), 5), (coding_lines.filling(), 1),
+        (coding_lines.free_integers(), 7), (coding_lines.free_integer_lengths(), 7), (coding_lines.other_choice(), 3),
+        (coding_lines.fraction_fields(), 7), (coding_lines.fractions_at_hour_24(), 1), (coding_lines.date_fields(), 5),
+        (coding_lines.time_fields(), 7), (coding_lines.causes_in_octets(), 3),
     ):
         yield from of_coding_lines(section, step)
 
@@ -369,16 +421,20 @@ def fields_in_octets():
 def any_values():
     """Values of every form with fields of any number, in every work."""
     numbers = coding_lines.Numbers(3)
-    for _ in range(600):
+    for _ in range(300):
         yield from all_works(*coding_lines.any_value(numbers))
 
 
 def any_octets():
-    """Octets of any number under types of every form."""
+    """Octets of any number under types of every form; for DER also behind the tag, and inside an element."""
     numbers = coding_lines.Numbers(4)
-    types = [type_text for type_text, _, _ in types_to_refuse()]
+    types = [(type_text, text) for type_text, text, _ in types_to_refuse()]
     for _ in range(700):
-        yield unper_line(numbers.one_of(types), bytes(numbers.below(256) for _ in range(numbers.below(10))))
+        type_text, _ = numbers.one_of(types)
+        yield unper_line(type_text, bytes(numbers.below(256) for _ in range(numbers.below(10))))
+    for _ in range(500):
+        type_text, text = numbers.one_of(types)
+        yield under_line(type_text, coding_lines.any_element(numbers, type_text, text))
 
 
 def refused_types():
@@ -392,26 +448,31 @@ def refused_types():
     yield from in_turn(without_limits(value_lines.pairs_of_lists()))
     for type_text, given in itertools.product(types[::40] + [date_type(b"Y", b"Basic", b"L5"), b""],
                                               (b"", b"2006-06-13", b"0558", b"5", b"x")):
-        yield from (line(work, type_text, given) for work in THREE_WORKS)
+        yield from (line(work, type_text, given) for work in FOUR_WORKS)
 
 
 def all_orders():
     """Pairs "in any order", in one list and in two."""
     for type_text, text in without_limits(value_lines.all_orders()):
         yield line(b"der", type_text, text)
-    yield from in_turn(itertools.islice(without_limits(value_lines.all_orders()), 0, None, 4))
+    for type_text, text in itertools.islice(without_limits(value_lines.all_orders()), 0, None, 4):
+        yield from all_works(type_text, text)
 
 
 def hex_digits():
     """Hex digits in capitals, in small letters and in both, and none."""
     for type_text, text in SAMPLE:
-        capitals = to_hex(fill(bits_of(type_text, text)))
-        mixed = b"".join(capitals[k:k + 1].lower() if k % 3 else capitals[k:k + 1] for k in range(len(capitals)))
-        for digits in (capitals, capitals.lower(), mixed, b""):
-            yield line(b"unper", type_text, digits)
-    yield from (line(b"unper", type_text, b"") for type_text, _, _ in types_to_refuse())
+        for work, octets in ((b"unper", fill(bits_of(type_text, text))), (b"under", element(type_text, text))):
+            capitals = to_hex(octets)
+            mixed = b"".join(capitals[k:k + 1].lower() if k % 3 else capitals[k:k + 1] for k in range(len(capitals)))
+            for digits in (capitals, capitals.lower(), mixed, b""):
+                yield line(work, type_text, digits)
+    for k, (type_text, _, _) in enumerate(types_to_refuse()):
+        yield line((b"unper", b"under")[k % 2], type_text, b"")
     yield from (line(b"unper", date_type(b"Y", *NEGATIVE), b"01" + b"%c%c" % (high, low))
                 for high, low in itertools.product(b"0189aAfF", b"0189aAfF"))
+    yield from (line(b"under", b"DATE", b"1F1F0832303036303631" + b"%c%c" % (high, low))
+                for high, low in itertools.product(b"0239aAfF", b"0239aAfF"))
 
 
 def no_hex_digits():
@@ -427,6 +488,8 @@ def no_hex_digits():
     types = (b"DATE", b"TIME-OF-DAY", date_type(b"Y", *L5), b"", b"DATE|DATE", date_type(b"Y", b"Basic", b"L5"))
     for type_text, given in itertools.product(types, wrong):
         yield line(b"unper", type_text, given)
+    for type_text, given in itertools.product(types[:1] + types[4:], wrong):
+        yield line(b"under", type_text, given.replace(b"0558", b"1F1F083230303630363133"))
 
 
 def every_octet():
@@ -436,6 +499,9 @@ def every_octet():
         yield from (b"unper;DATE;055" + octet, b"unper;DATE;" + octet + b"558", b"unper;DATE;0558" + octet)
         yield from (b"unper;DATE;05" + octet + octet, b"unper;DATE" + octet + b";0558", b"unper;DATE" + octet + b"0558")
         yield from (b"unper" + octet + b";DATE;0558", b"unpe" + octet + b";DATE;0558", octet + b"unper;DATE;0558")
+        yield from (b"under;DATE;1F1F08323030363036313" + octet, b"under;DATE;" + octet + b"F1F083230303630363133")
+        yield from (b"under;DATE;1F1F083230303630363133" + octet, b"unde" + octet + b";DATE;1F1F083230303630363133")
+        yield b"under" + octet + b"DATE;1F1F083230303630363133"
         yield from (b"p" + octet + b"r;DATE;2006-06-14", b"per" + octet + b";DATE;2006-06-14")
         yield from (octet + b"er;DATE;2006-06-15", octet + b"der;DATE;2006-06-14")
         yield from (b"der" + octet + b"DATE;2006-06-14", b"per;DATE" + octet + b"2006-06-14")
@@ -458,6 +524,9 @@ def semicolons():
         b";unper;DATE;0558", b"per;DA;TE;2006-06-13", b"unper;DA;TE;0558", b"per;DATE;2006;06;13",
         b"per;DATE;2006-06-13;2006-06-14", b"per;DATE;2006-06-13;der;DATE;2006-06-13",
         b"unper;DATE;0558;unper;DATE;0558", b"per;DATE;DATE;2006-06-13", b"der;DATE;1F1F083230303630363133",
+        b"under;DATE", b"under;1F1F083230303630363133", b"under;DATE;", b"under;;;", b"under;;1F1F083230303630363133",
+        b"under;DATE;;1F1F083230303630363133", b"under;DATE;1F1F083230303630363133;",
+        b"under;;DATE;1F1F083230303630363133", b"under;1F1F083230303630363133;DATE",
         b"per;2006-06-13;DATE", b"DATE;per;2006-06-13", b"unper;0558;DATE", b"per;DATE;2006-06-13;;;;",
         b"per;" + b";" * 900, b"unper;DATE;" + b";" * 900, b"der" + b";" * 900,
     )
@@ -465,9 +534,9 @@ def semicolons():
 
 
 def other_works():
-    """Works that are none, and `under`, with inputs for every work."""
+    """Works that are none, with inputs for every work."""
     works = (
-        b"", b" ", b"under", b"Under", b"UNDER", b"unde", b"under ", b" under", b"unders", b"un der", b"per ", b" per",
+        b"", b" ", b"Under", b"UNDER", b"unde", b"under ", b" under", b"unders", b"un der", b"per ", b" per",
         b"PER", b"Per", b"pEr", b"peR", b"\tper", b"per\t", b"per\r", b"\rper", b"per\x00", b"\x00per", b"pe", b"er",
         b"p", b"perr", b"pper", b"pre", b"rep", b"der ", b" der", b"DER", b"Der", b"deR", b"der\r", b"der\x00", b"de",
         b"d", b"derr", b"dder", b"red", b"unper ", b" unper", b"UNPER", b"Unper", b"unPer", b"unpeR", b"un per",
@@ -480,30 +549,15 @@ def other_works():
     yield from (work + rest for work, rest in itertools.product(works, rests))
 
 
-def under_lines():
-    """What DER writes, in hex, for the work that isn't known yet; some of it changed, and hex that is none."""
-    for k, (type_text, text, octets) in enumerate(der_vectors()):
-        if k % 4 == 0:
-            yield line(b"under", type_text, to_hex(octets))
-            yield line(b"under", type_text, to_hex(octets[:-1]))
-            yield line(b"under", type_text, (to_hex(octets).lower(), to_hex(octets) + b"0", text, b"")[k // 4 % 4])
-
-
 def long_parts():
     """Long types and long texts in lines of up to 1,024 octets, in every work."""
     for type_text, given in without_limits(itertools.chain(value_lines.long_types(), value_lines.long_texts())):
-        lines = [line(work, type_text, given) for work in THREE_WORKS]
+        lines = [line(work, type_text, given) for work in FOUR_WORKS]
         yield from (each for each in lines if len(each) <= LONGEST_LINE)
 
 
-def long_hex(type_text, octets, length):
-    """A line of that length that reads these octets with others behind them; at one of two lengths half a pair."""
-    start = line(b"unper", type_text, to_hex(octets))
-    return start + b"0" * (length - len(start))
-
-
 def padded(start, other, length):
-    """A line that is lengthened by other octets."""
+    """A line that is lengthened by other octets; 0 behind hex digits makes half a pair at one of two lengths."""
     return (start + other * (length - len(start)))[:length]
 
 
@@ -513,9 +567,12 @@ def lines_of_length(length):
     yield padded(b"der;DATE-TIME;2006-06-13T15:27:46", b"\xff", length)
     yield padded(b"der;" + b"DATE|" * 200, b"|", length - 11) + b";2006-06-13"
     yield padded(b"unper;DATE", b" ", length - 5) + b";0558"
-    yield from (long_hex(type_text, b"\x05\x58", length) for type_text in (b"DATE", b"DATE "))
+    yield padded(b"under;DATE", b" ", length - 23) + b";1F1F083230303630363133"
+    yield from (padded(start, b"0", length) for start in (
+        b"unper;DATE;0558", b"unper;DATE ;0558", b"under;DATE;1F1F083230303630363133", b"under;TIME-OF-DAY;1F207F",
+        b"under;DATE ;1F1F083230303630363133", b"under;DATE-TIME;1F210E3230303630323239323430303030",
+    ))
     yield padded(b"unper;TIME-OF-DAY;", b"f", length)
-    yield padded(b"under;DATE;1F1F083230303630363133", b"0", length)
     yield padded(b"", b"x", length - 19) + b"per;DATE;2006-06-13"
     yield padded(b"", b"per;DATE;2006-06-13\r", length)
 
@@ -530,24 +587,19 @@ def longest_lines():
     for size in (1023, 1024, 1025, 1026, 2048, 4096, 8192):
         yield questions_in_parts(2 * size + 20, size)
         yield padded(b"", b"x", size) + b"per;DATE;2006-06-13"
-    for length in (1027, 1500, 2047, 2048, 2049, 4095, 4096, 4097, 5000, 8191, 8192, 8193):
-        yield padded(b"per;DATE;2006-06-13", b" ", length)
-        yield long_hex(b"DATE", b"\x05\x58", length)
-    for length in (16384, 32769, 65535, 65536, 65537, 70000):
-        yield long_hex(b"DATE", b"\x05\x58", length)
+    starts = (b"per;DATE;2006-06-13", b"unper;DATE;0558", b"under;DATE;1F1F083230303630363133")
+    for k, length in enumerate((1027, 1500, 2047, 2048, 2049, 4095, 4096, 4097, 5000, 8191, 8192, 8193, 16384)):
+        yield padded(starts[k % 3], b" 00"[k % 3:k % 3 + 1], length)
     yield questions_in_parts(70000, 1025)
-    yield padded(b"", b";", 70000)
-    yield padded(b"der;DATE;2006-06-13", b"\x00", 200000)
-    yield questions_in_parts(200000, 1024)
-    yield long_hex(b"DATE", b"\x05\x58", 200001)
+    yield padded(b"", b";", 20000)
+    yield padded(b"der;DATE;2006-06-13", b"\x00", 100000)
 
 
 def short_line(k):
     """A question that no other section asks, but by chance."""
     text = b"%02d:%02d:%02d" % (k % 24, 7 * k % 60, 11 * k % 60)
-    octets = fill(bits_of(b"TIME-OF-DAY", text))
-    work = THREE_WORKS[k % 3]
-    return line(work, b"TIME-OF-DAY", to_hex(octets) if work == b"unper" else text)
+    work = FOUR_WORKS[k % 4]
+    return line(work, b"TIME-OF-DAY", good_input(work, b"TIME-OF-DAY", text))
 
 
 def long_lines():
@@ -570,7 +622,8 @@ def runs():
     for k in range(60):
         yield from [short_line(k + 600)] + [b""] * (k % 3)
     yield from (bytes([octet]) for octet in b";;;;00\r\r\x00\x00 ?per;")
-    yield from [b"per;DATE;2006-06-13", b"der;DATE;2006-06-13", b"unper;DATE;0558"] * 5
+    yield from [b"per;DATE;2006-06-13", b"der;DATE;2006-06-13", b"unper;DATE;0558",
+                b"under;DATE;1F1F083230303630363133"] * 5
     yield from [b"", b"per;DATE;2006-06-13", b"\r", b"", b"per;DATE;2006-06-13\r", b"\rper;DATE;2006-06-13"]
 
 
@@ -582,9 +635,9 @@ def last_line():
 # each line once
 SECTIONS = (
     first_lines, checked_values, good_values, vectors, boundaries, other_forms, refusals, other_spellings,
-    changed_texts, changed_types, changed_octets, dates_in_octets, times_in_octets, date_times_in_octets,
-    fields_in_octets, any_values, any_octets, refused_types, all_orders, hex_digits, no_hex_digits, every_octet,
-    semicolons, other_works, under_lines, long_parts,
+    changed_texts, changed_types, changed_octets, changed_elements, names_in_elements, dates_in_octets,
+    times_in_octets, date_times_in_octets, fields_in_octets, any_values, any_octets, refused_types, all_orders,
+    hex_digits, no_hex_digits, every_octet, semicolons, other_works, long_parts,
 )
 
 # lines whose order counts, some of them more than once

@@ -2,10 +2,8 @@
 
 from collections import namedtuple
 
-from answers import judge_value, refusal, success
-from settings import is_refused, read_type
+from answers import answer_on_octets, answer_on_text
 from texts import Date, Difference, Fraction, TIME_FIELDS, Time, Value
-from texts import canonical_text, read_text
 
 # a field of so many bits, with the lowest and the highest number of its range; the lowest is written as 0
 Field = namedtuple("Field", "lowest highest width")
@@ -223,30 +221,17 @@ def read_octets(t, octets):
         return None
 
 
-def encode(type_text, limits, text, room_length):
-    """The number, the octets and the bit count, "the plain sum of these widths, before the filling"."""
-    t = read_type(type_text, limits)
-    if is_refused(t):
-        return refusal(t)
-    value, _ = read_text(t, text) or (None, None)
-    number = judge_value(t, value)
-    if number != 0:
-        return refusal(number)
+def write(t, value):
+    """The octets and the bit count, "the plain sum of these widths, before the filling"."""
     bits = value_bits(t, value)
-    return success(fill(bits), len(bits), room_length)
+    return fill(bits), len(bits)
+
+
+def encode(type_text, limits, text, room_length):
+    """The number, the octets and the bit count."""
+    return answer_on_text(type_text, limits, text, room_length, write)
 
 
 def decode(type_text, limits, octets, room_length):
-    """The number, the text and the bit count, "both when writing and when reading, the sum above"; 6 for "not what
-    the encoder writes"; "When several hold, the lowest number is given"."""
-    t = read_type(type_text, limits)
-    if is_refused(t):
-        return refusal(t)
-    value = read_octets(t, octets)
-    number = judge_value(t, value)
-    if number != 0:
-        return refusal(number)
-    bits = value_bits(t, value)
-    if fill(bits) != octets:
-        return refusal(6)
-    return success(canonical_text(value), len(bits), room_length)
+    """The number, the text and the bit count, "both when writing and when reading, the sum above"."""
+    return answer_on_octets(type_text, limits, octets, room_length, read_octets, write)

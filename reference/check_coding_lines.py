@@ -1,0 +1,68 @@
+"""Checks coding_lines.py against hand-written replies, and that its lines ask for all."""
+
+from checks import agree
+from coding_lines import all_lines, reply
+
+# line, reply
+LINES = (
+    # "the bit count: in PER, both when writing and when reading, the sum above; in DER 0"
+    (b"e0*;DATE;2006-06-13", b"0 15 0558"),
+    (b"d0*;DATE;0558", b"0 15 2006-06-13"),
+    (b"t0*;DATE;2006-06-13", b"0 0 1F1F083230303630363133"),
+    (b"u0*;DATE;1F1F083230303630363133", b"0 0 2006-06-13"),
+    # "the lent room is shorter than the result"
+    (b"e0b;DATE;2006-06-13", b"7"),
+    (b"e0c;DATE;2006-06-13", b"0 15 0558"),
+    (b"d0j;DATE;0558", b"7"),
+    (b"t0k;DATE;2006-06-13", b"7"),
+    (b"t0l;DATE;2006-06-13", b"0 0 1F1F083230303630363133"),
+    (b"u0j;DATE;1F1F083230303630363133", b"7"),
+    (b"u0k;DATE;1F1F083230303630363133", b"0 0 2006-06-13"),
+    (b"u0A;DATE;1F1F083230303630363133", b"0 0 2006-06-13"),
+    # "year window, hour 24", and "a restriction where it has no place"
+    (b"d1*;DATE;0558", b"0 15 2006-06-13"),
+    (b"u1*;DATE;1F1F083230303630363133", b"0 0 2006-06-13"),
+    (b"u1*;DATE;1F1F083230313130313031", b"5"),
+    (b"u4a;DATE;1F1F083230303630363133", b"5"),
+    (b"u8*;TIME-OF-DAY;1F2006323430303030", b"5"),
+    (b"u8*;DATE;1F1F083230303630363133", b"1"),
+    (b"u1*;TIME-OF-DAY;1F2006323430303030", b"1"),
+    # no questions
+    (b"u0*;DATE;1F1F08323030363036313", b"?"),
+    (b"u0*;DATE;2006-06-13", b"?"),
+    (b"U0*;DATE;1F1F083230303630363133", b"?"),
+    (b"u0;DATE;1F1F083230303630363133", b"?"),
+    (b"ux*;DATE;1F1F083230303630363133", b"?"),
+    (b"u0+;DATE;1F1F083230303630363133", b"?"),
+    (b"u0*;DATE", b"?"),
+)
+
+# "6 | decoding only"
+FIRST_WORDS = {
+    b"e": {b"0", b"1", b"2", b"3", b"4", b"5", b"7", b"?"},
+    b"t": {b"0", b"1", b"2", b"3", b"4", b"5", b"7", b"?"},
+    b"d": {b"0", b"1", b"2", b"3", b"4", b"5", b"6", b"7", b"?"},
+    b"u": {b"0", b"1", b"2", b"3", b"4", b"5", b"6", b"7", b"?"},
+}
+
+
+def check_lines():
+    """That the lines ask for each number that a work can give."""
+    lines = all_lines()
+    found = {work: set() for work in FIRST_WORDS}
+    for each in lines:
+        if each[:1] in found:
+            found[each[:1]].add(reply(each).split(b" ")[0])
+    agree(found, FIRST_WORDS, "replies")
+    agree(40000 < len(lines) < 75000, True, "number of lines")
+
+
+def main():
+    """Ends with a message at the first disagreement; prints nothing when there is none."""
+    for given, expected in LINES:
+        agree(reply(given), expected, given)
+    check_lines()
+
+
+if __name__ == "__main__":
+    main()

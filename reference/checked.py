@@ -1,0 +1,145 @@
+"""Prints what both encoders and both decoders give for some values, texts and octets, and the room after each call.
+
+A line is `WORK;TYPE;LIMITS;INPUT;ROOM = NUMBER LENGTH BITS AFTER`, one for each call. WORK is per, unper, der or under.
+LIMITS is one of the names below. INPUT is a text as it stands (per, der), or octets in capital hex digits (unper,
+under). ROOM is how many octets are lent, and each of them is AA before the call. NUMBER, LENGTH and BITS are what comes
+back; AFTER is the whole room in capital hex digits, nothing where no octet is lent. All numbers are decimal.
+"""
+
+import itertools
+import sys
+
+import der
+import per
+from checks import HM_LD, HMSF3_L, HMSF4_L, ROOM, Y_BASIC, Y_L5, Y_PROLEPTIC, YMD_BASIC, YMD_PROLEPTIC
+from settings import Limits, NO_LIMITS
+
+WORKS = {b"per": per.encode, b"der": der.encode, b"unper": per.decode, b"under": der.decode}
+
+# a lowest and a highest year, and "no hour 24"
+LIMITS = {
+    b"none": NO_LIMITS,
+    b"2000..2010": Limits((2000, 2010), False),
+    b"2010..2000": Limits((2010, 2000), False),
+    b"-44..-44": Limits((-44, -44), False),
+    b"no24": Limits(None, True),
+    b"2000..2010,no24": Limits((2000, 2010), True),
+}
+
+# what the room holds before the call
+BEFORE = b"\xAA"
+
+ROOMS_OF_REFUSALS = (0, 1, 24)
+
+YMD_NEGATIVE_L5 = b"Basic=Date Date=YMD Year=Negative|Basic=Date Date=YMD Year=L5"
+
+# type, limits, canonical text
+GOOD_VALUES = (
+    (Y_PROLEPTIC, b"none", b"0000"),
+    (HMSF4_L, b"none", b"15:27:46.0999"),
+    (HMSF4_L, b"none", b"15:27:46.1000"),
+    (b"DATE", b"none", b"2006-06-13"),
+    (b"DATE", b"none", b"1582-01-01"),
+    (b"DATE", b"2000..2010", b"2000-01-01"),
+    (b"DATE", b"2000..2010", b"2010-12-31"),
+    (b"TIME-OF-DAY", b"none", b"24:00:00"),
+    (b"TIME-OF-DAY", b"no24", b"23:59:60"),
+    (b"DATE-TIME", b"2000..2010,no24", b"2006-06-13T15:27:46"),
+    (YMD_NEGATIVE_L5, b"-44..-44", b"-0044-03-15"),
+    (HM_LD, b"none", b"15:27-05:30"),
+)
+
+# type, limits, text
+REFUSED_TEXTS = (
+    (b"DATE", b"none", b"1581-12-31"),
+    (b"DATE", b"none", b"2006-02-29"),
+    (b"DATE", b"none", b"1500-02-30"),
+    (b"DATE", b"none", b""),
+    (b"DATE", b"2000..2010", b"1999-12-31"),
+    (b"DATE", b"2000..2010", b"2011-01-01"),
+    (b"DATE", b"2010..2000", b"2005-06-13"),
+    (b"DATE", b"2010..2000", b"2005-02-29"),
+    (b"TIME-OF-DAY", b"no24", b"24:00:00"),
+    (b"TIME-OF-DAY", b"no24", b"24:00:01"),
+    (b"TIME-OF-DAY", b"none", b"24:00:01"),
+    (b"TIME-OF-DAY", b"2000..2010", b"15:27:46"),
+    (b"DATE", b"no24", b"2006-06-13"),
+    (Y_BASIC + b"|" + Y_L5, b"none", b"2006"),
+)
+
+
+def octets_of(work, type_text, text, limits=b"none"):
+    """What an encoder writes for a text that the type holds."""
+    number, octets, _ = WORKS[work](type_text, LIMITS[limits], text, ROOM)
+    if number != 0:
+        sys.exit("%s is refused" % text)
+    return octets
+
+
+def refused_octets():
+    """Work, type, limits, octets."""
+    date = octets_of(b"der", b"DATE", b"2006-06-13")
+    return (
+        (b"unper", b"DATE", b"2000..2010", octets_of(b"per", b"DATE", b"2011-01-01")),
+        (b"unper", b"DATE", b"2010..2000", b"\x05\x58"),
+        (b"unper", b"TIME-OF-DAY", b"no24", b"\xC0\x00\x00"),
+        (b"unper", b"DATE", b"none", octets_of(b"per", YMD_PROLEPTIC, b"1581-12-31")),
+        (b"unper", b"DATE", b"none", b"\x05\x58\x00"),
+        (b"unper", b"DATE", b"none", b"\x05"),
+        (b"under", b"DATE", b"2000..2010", octets_of(b"der", b"DATE", b"2011-01-01")),
+        (b"under", b"DATE", b"2010..2000", date),
+        (b"under", b"TIME-OF-DAY", b"no24", octets_of(b"der", b"TIME-OF-DAY", b"24:00:00")),
+        (b"under", b"DATE", b"none", b"\x1F\x1F\x0815811231"),
+        (b"under", b"DATE", b"none", date + b"\x00"),
+        (b"under", b"DATE", b"none", date[:-1]),
+        (b"under", HMSF3_L, b"none", b"\x0E\x0C15:27:46,500"),
+        (b"under", HM_LD, b"none", b"\x0E\x0B15:27+01:00"),
+        (b"under", b"DATE", b"none", octets_of(b"der", YMD_BASIC, b"2006-06-13")),
+    )
+
+
+def to_hex(octets):
+    """Hex digits in capitals."""
+    return octets.hex().upper().encode()
+
+
+def line(work, type_text, limits, given, room):
+    """The line of one call: "result at the front of the room, the rest of it unchanged"; a refusal leaves the "room
+    untouched"."""
+    number, result, bits = WORKS[work](type_text, LIMITS[limits], given, room)
+    shown = to_hex(given) if work in (b"unper", b"under") else given
+    after = to_hex(result + BEFORE * (room - len(result)))
+    return b"%s;%s;%s;%s;%d = %d %d %d %s" % (
+        work, type_text, limits, shown, room, number, len(result), bits, after)
+
+
+def good_lines(type_text, limits, text):
+    """Both encoders and both decoders, with rooms one octet too short, exact, and three octets longer."""
+    in_per, in_der = (octets_of(work, type_text, text, limits) for work in (b"per", b"der"))
+    for work, given, length in (
+        (b"per", text, len(in_per)), (b"der", text, len(in_der)),
+        (b"unper", in_per, len(text)), (b"under", in_der, len(text)),
+    ):
+        for room in (length - 1, length, length + 3):
+            yield line(work, type_text, limits, given, room)
+
+
+def all_lines():
+    """The good values, then the texts to refuse, then the octets to refuse."""
+    for type_text, limits, text in GOOD_VALUES:
+        yield from good_lines(type_text, limits, text)
+    for (type_text, limits, text), work in itertools.product(REFUSED_TEXTS, (b"per", b"der")):
+        yield from (line(work, type_text, limits, text, room) for room in ROOMS_OF_REFUSALS)
+    for work, type_text, limits, octets in refused_octets():
+        yield from (line(work, type_text, limits, octets, room) for room in ROOMS_OF_REFUSALS)
+
+
+def main():
+    """Writes the lines."""
+    if sys.argv[1:]:
+        sys.exit("usage: checked.py")
+    sys.stdout.buffer.write(b"".join(each + b"\n" for each in all_lines()))
+
+
+if __name__ == "__main__":
+    main()
