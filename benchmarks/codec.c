@@ -216,33 +216,37 @@ static int agree(work ours, work peer, const uint8_t *inputs, size_t length)
     return 1;
 }
 
-/* The best round of a work over all inputs, in nanoseconds a call, and a sum over some of what it writes. The room is not
- * cleared before a call. */
-static double best(work run, const uint8_t *inputs, size_t length, uint64_t *sum)
+/* A round of a work over all inputs, in nanoseconds a call, and a sum over some of what it writes. The room is not cleared
+ * before a call. */
+static double one_round(work run, const uint8_t *inputs, size_t length, uint64_t *sum)
 {
-    double least = 1e9;
-    for (int round = 0; round < ROUNDS; round++) {
-        struct timespec from, to;
-        clock_gettime(CLOCK_MONOTONIC, &from);
-        *sum = 0;
-        for (int turn = 0; turn < TURNS; turn++)
-            for (size_t k = 0; k < VALUES; k++) {
-                uint8_t room[ROOM];
-                *sum += run(inputs + k * length, length, room, ROOM);
-                *sum = *sum * 31 + room[1] + room[3];
-            }
-        clock_gettime(CLOCK_MONOTONIC, &to);
-        double took = ((double)(to.tv_sec - from.tv_sec) * 1e9 + (double)(to.tv_nsec - from.tv_nsec)) / TURNS / VALUES;
-        if (took < least)
-            least = took;
-    }
-    return least;
+    struct timespec from, to;
+    clock_gettime(CLOCK_MONOTONIC, &from);
+    *sum = 0;
+    for (int turn = 0; turn < TURNS; turn++)
+        for (size_t k = 0; k < VALUES; k++) {
+            uint8_t room[ROOM];
+            *sum += run(inputs + k * length, length, room, ROOM);
+            *sum = *sum * 31 + room[1] + room[3];
+        }
+    clock_gettime(CLOCK_MONOTONIC, &to);
+    return ((double)(to.tv_sec - from.tv_sec) * 1e9 + (double)(to.tv_nsec - from.tv_nsec)) / TURNS / VALUES;
 }
 
+static double least(double a, double b)
+{
+    return a < b ? a : b;
+}
+
+/* One row: the best round of each, in turn, so that a slow second of the machine meets both. */
 static int compare(const char *name, work ours, work peer, const uint8_t *inputs, size_t length)
 {
-    uint64_t a, b;
-    double x = best(ours, inputs, length, &a), y = best(peer, inputs, length, &b);
+    uint64_t a = 0, b = 0;
+    double x = 1e9, y = 1e9;
+    for (int round = 0; round < ROUNDS; round++) {
+        x = least(x, one_round(ours, inputs, length, &a));
+        y = least(y, one_round(peer, inputs, length, &b));
+    }
     printf("%s: archive %.1f ns, plain C %.1f ns, ratio %.1f\n", name, x, y, x / y);
     return a != b || !agree(ours, peer, inputs, length);
 }
