@@ -13,18 +13,27 @@ CONVERT = Path(__file__).resolve().parent.parent / "target/bin/convert"
 COUNT = 1_000_000
 
 
+def fields(k):
+    """The six fields of a DATE-TIME of the years 2005 to 2020."""
+    return 2005 + k % 16, 1 + k % 12, 1 + k % 28, k % 24, k // 7 % 60, k % 60
+
+
 def text(k):
-    """A DATE-TIME of the years 2005 to 2020."""
-    fields = (2005 + k % 16, 1 + k % 12, 1 + k % 28, k % 24, k // 7 % 60, k % 60)
-    return b"%04d-%02d-%02dT%02d:%02d:%02d" % fields
+    """The text of a DATE-TIME."""
+    return b"%04d-%02d-%02dT%02d:%02d:%02d" % fields(k)
 
 
 def octets(k):
     """The same in unaligned PER, in hex."""
-    bits = k % 16
-    for number, width in ((k % 12, 4), (k % 28, 5), (k % 24, 5), (k // 7 % 60, 6), (k % 60, 6)):
-        bits = bits << width | number
+    bits = 0
+    for number, lowest, width in zip(fields(k), (2005, 1, 1, 0, 0, 0), (4, 4, 5, 5, 6, 6)):
+        bits = bits << width | number - lowest
     return b"%08X" % bits
+
+
+def element(k):
+    """The same in DER, in hex."""
+    return (b"\x1F\x21\x0E%04d%02d%02d%02d%02d%02d" % fields(k)).hex().upper().encode()
 
 
 def run(program, file):
@@ -49,3 +58,4 @@ if __name__ == "__main__":
     compare(b"per", text)
     compare(b"der", text)
     compare(b"unper", octets)
+    compare(b"under", element)

@@ -1,4 +1,4 @@
-/* Codes each text given under a type: its octets in PER and in DER, and the text that the PER octets give again. */
+/* Codes each text given under a type: its octets in PER and in DER, and the texts that these octets give again. */
 #include <inttypes.h>
 #include <stdio.h>
 #include <string.h>
@@ -20,20 +20,29 @@ static void print_octets(const char *name, struct anafzir_outcome o, const uint8
     printf(o.bits == 0 ? "\n" : ", %" PRIu32 " bits\n", o.bits);
 }
 
+/* What an encoder has written is never refused by its decoder. */
+static void print_text(const char *name, struct anafzir_outcome o, const uint8_t *room)
+{
+    printf("  canonical text from %s: %.*s\n", name, (int)o.length, (const char *)room);
+}
+
 static void code(const char *type, const char *text)
 {
     const struct anafzir_limits no_limits = {0};
     const uint8_t *name = (const uint8_t *)type, *input = (const uint8_t *)text;
+    size_t name_length = strlen(type), input_length = strlen(text);
     uint8_t per[ROOM], der[ROOM], back[ROOM];
     printf("%s\n", text);
 
-    struct anafzir_outcome o = anafzir_per_encode(name, strlen(type), no_limits, input, strlen(text), per, ROOM);
+    struct anafzir_outcome o = anafzir_per_encode(name, name_length, no_limits, input, input_length, per, ROOM);
     print_octets("PER", o, per);
-    print_octets("DER", anafzir_der_encode(name, strlen(type), no_limits, input, strlen(text), der, ROOM), der);
-    if (o.number == ANAFZIR_DONE) {
-        o = anafzir_per_decode(name, strlen(type), no_limits, per, o.length, back, ROOM);
-        printf("  canonical text: %.*s\n", (int)o.length, (const char *)back);
-    }
+    if (o.number == ANAFZIR_DONE)
+        print_text("PER", anafzir_per_decode(name, name_length, no_limits, per, o.length, back, ROOM), back);
+
+    o = anafzir_der_encode(name, name_length, no_limits, input, input_length, der, ROOM);
+    print_octets("DER", o, der);
+    if (o.number == ANAFZIR_DONE)
+        print_text("DER", anafzir_der_decode(name, name_length, no_limits, der, o.length, back, ROOM), back);
 }
 
 int main(int count, char **words)

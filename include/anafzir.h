@@ -1,5 +1,5 @@
 /* ASN.1 dates and times: the text of a value becomes unaligned PER (X.691 Amendment 2) or
- * DER (X.690 Amendment 2), and PER becomes text again.
+ * DER (X.690 Amendment 2), and octets of either become text again.
  *
  * Each function takes any octets as a type, as a text and as an encoding, and any room; it
  * always returns, keeps no state, allocates nothing and writes to the room alone. Functions
@@ -32,15 +32,18 @@ enum {
     /* The type's two lists can each be read and do not belong together: they differ in more
      * than Year, or in Years that are not Basic with Proleptic or Negative with L5. */
     ANAFZIR_MIXED_TYPE = 2,
-    /* The input does not look like a value of the type: a text with other fields, separators or
-     * numbers of digits; octets that end too early or hold a number that no field has. */
+    /* The input does not look like a value of the type: a text, or contents in DER, with other
+     * fields, separators or numbers of digits; octets that end too early; in PER a number that no
+     * field has; in DER another tag, or a length above 127. */
     ANAFZIR_BAD_FORM = 3,
     /* It looks right, and there is no such date, time or difference: 30 February, 24:00:01. */
     ANAFZIR_NO_SUCH_VALUE = 4,
     /* The value exists, and the type does not have it: another Year setting, a year outside the
      * lowest and highest, hour 24 where it is excluded. */
     ANAFZIR_NOT_IN_TYPE = 5,
-    /* Decoding only: the octets give a value, and they are not what the encoder writes for it. */
+    /* Decoding only: the octets give a value, and they are not what the encoder writes for it:
+     * octets are left over; in PER a number takes more bits than it needs, or the filling is not
+     * zero; in DER there is a comma, or minutes 00 in a difference. */
     ANAFZIR_NOT_CANONICAL = 6,
     /* All is well, and the room is shorter than the result. Room of 136 octets is always enough. */
     ANAFZIR_SHORT_ROOM = 7
@@ -95,6 +98,13 @@ struct anafzir_outcome anafzir_per_decode(
 
 /* The octets of a text in DER: tag, length and contents. */
 struct anafzir_outcome anafzir_der_encode(
+    const uint8_t *type, size_t type_length,
+    struct anafzir_limits limits,
+    const uint8_t *input, size_t input_length,
+    uint8_t *room, size_t room_length);
+
+/* The canonical text of octets in DER. */
+struct anafzir_outcome anafzir_der_decode(
     const uint8_t *type, size_t type_length,
     struct anafzir_limits limits,
     const uint8_t *input, size_t input_length,

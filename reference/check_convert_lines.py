@@ -125,9 +125,9 @@ def check_lines():
         if work in found and semicolon:
             found[work].add(reply(each).split(b" ")[0])
     agree(found, FIRST_WORDS, "replies")
-    agree(len(set(lines)) >= 20000 and len(lines) < 60000, True, "number of lines")
-    agree(sum(map(len, lines)) < 3200000, True, "number of octets")
-    agree({0, 1, 1023, 1024, 1025, 5000, 70000, 100000} <= set(map(len, lines)), True, "lengths")
+    agree(len(set(lines)) >= 20000 and len(lines) < 80000, True, "number of lines")
+    agree(sum(map(len, lines)) < 5000000, True, "number of octets")
+    agree({0, 1, 1023, 1024, 1025, 5000, 70000, 200000, 200001} <= set(map(len, lines)), True, "lengths")
     agree(lines[:3], WHOLE[0][0].splitlines(), "first lines")
     agree(reply(lines[-1])[:2], b"0 ", "last line")
 

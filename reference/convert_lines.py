@@ -72,9 +72,9 @@ def replies(octets):
     return b"".join(reply(question) + b"\n" for question in split_lines(octets))
 
 
-# the works that are asked for in turn
-FOUR_WORKS = (b"per", b"der", b"unper", b"under")
-IN_DER = (b"der", b"under")
+THREE_WORKS = (b"per", b"der", b"unper")
+FOUR_WORKS = (*THREE_WORKS, b"under")
+HEX_WORKS = FOUR_WORKS[2:]
 
 # a year of each setting, common and of 52 weeks
 COMMON_YEARS = {b"Basic": b"2006", b"Proleptic": b"1066", b"Negative": b"-0043", b"L5": b"+12007"}
@@ -89,9 +89,6 @@ YEARS_TO_READ = {
     ),
     NEGATIVE_L5: (b"-0001", b"-0128", b"-0129", b"-9999", b"-10000", b"-99999", b"+10000", b"+32768", b"+99999"),
 }
-
-# the choices of years of a type that reads
-READERS_YEARS = (BASIC, PROLEPTIC, NEGATIVE, L5, BASIC_PROLEPTIC, NEGATIVE_L5)
 
 # types and texts whose octets, texts and types are changed
 SAMPLE = (
@@ -176,11 +173,16 @@ def of_coding_lines(section, step):
             yield works[start] + b";" + rest
 
 
+def works_in_turn(k):
+    """The works that are asked for with question k: three in turn, and with each fourth question `under` too."""
+    return (THREE_WORKS[k % 3], b"under") if k % 4 == 3 else (THREE_WORKS[k % 3],)
+
+
 def in_turn(questions):
-    """Each type with its text in one of four works, in turn; for the last two the octets of the text itself."""
+    """Each type with its text, in works in turn; for those that read the octets of the text itself."""
     for k, (type_text, text) in enumerate(questions):
-        work = FOUR_WORKS[k % 4]
-        yield line(work, type_text, to_hex(text) if work in (b"unper", b"under") else text)
+        for work in works_in_turn(k):
+            yield line(work, type_text, to_hex(text) if work in HEX_WORKS else text)
 
 
 def first_lines():
@@ -195,12 +197,10 @@ def checked_values():
 
 
 def good_values():
-    """Each date with each choice of years, each time with each zone, and many date-times: all in DER, the date-times in
-    PER in part."""
-    for type_text, text in without_limits(itertools.chain(value_lines.good_dates(), value_lines.good_times())):
-        yield from all_works(type_text, text)
-    for k, (type_text, text) in enumerate(without_limits(value_lines.good_date_times())):
-        yield from (each for each in all_works(type_text, text) if k % 3 == 0 or each.split(b";")[0] in IN_DER)
+    """Each date with each choice of years, each time with each zone, and many date-times, in every work."""
+    for section in (value_lines.good_dates(), value_lines.good_times(), value_lines.good_date_times()):
+        for type_text, text in without_limits(section):
+            yield from all_works(type_text, text)
 
 
 def vectors():
@@ -211,24 +211,23 @@ def vectors():
         yield under_line(type_text, octets)
         if k % 5 == 0:
             yield unper_line(type_text, octets)
-    for k, each in enumerate(of_coding_lines(coding_lines.vectors(), 13)):
+    for k, each in enumerate(of_coding_lines(coding_lines.vectors(), 9)):
         yield each
         if k % 8 == 1:
             yield each.replace(b"unper", b"under")
 
 
 def boundaries():
-    """Dates, times and differences below, at and above their ends: a third in every work, the others in DER, written
-    or read."""
+    """Dates, times and differences below, at and above their ends: all written in DER, a third in every work, and a
+    third read in DER."""
     questions = itertools.chain(
         value_lines.date_boundaries(), value_lines.month_boundaries(), value_lines.week_boundaries(),
         value_lines.time_boundaries(), value_lines.fractions_at_hour_24(), value_lines.differences(),
     )
     for k, (type_text, text) in enumerate(without_limits(questions)):
+        yield line(b"der", type_text, text)
         if k % 3 == 0:
             yield from all_works(type_text, text)
-        if k % 3 == 1:
-            yield line(b"der", type_text, text)
         if k % 3 == 2:
             yield under_line(type_text, element(type_text, text))
 
@@ -274,7 +273,7 @@ def types_to_refuse():
         yield dates_to_refuse(date, years)
     for time, zone in itertools.product(TIMES, ZONES):
         yield times_to_refuse(time, zone)
-    for date, years, time, zone in itertools.islice(value_lines.some_date_times(), 0, None, 11):
+    for date, years, time, zone in itertools.islice(value_lines.some_date_times(), 0, None, 3):
         yield date_times_to_refuse(date, years, time, zone)
 
 
@@ -290,9 +289,9 @@ def refusals():
         octets = element(type_text, text)
         yield from (under_line(type_text, octets[:-1]), under_line(type_text, octets + b"\x00"))
         other = (date_type(b"Y", b"Basic"), date_type(b"YW", b"L5"), time_type(b"HF7", b"L"))[k // 3 % 3]
-        for step, other_type in enumerate((type_text + b" ", type_text + b"|" + other)):
-            for work in (FOUR_WORKS[(k + step) % 4], FOUR_WORKS[(k + step + 1) % 4]):
-                yield line(work, other_type, good_input(work, type_text, text))
+        for other_type in (type_text + b" ", type_text + b"|" + other):
+            yield from in_turn([(other_type, text)] * 3)
+            yield under_line(other_type, octets)
 
 
 def other_spellings():
@@ -331,8 +330,7 @@ def changed_types():
         changed = itertools.chain(cut, value_lines.deletions(type_text), value_lines.replacements(type_text, others),
                                   value_lines.insertions(type_text, others[1:2]))
         for k, each in enumerate(changed):
-            work = FOUR_WORKS[k % 4]
-            yield line(work, each, good_input(work, type_text, text))
+            yield from (line(work, each, good_input(work, type_text, text)) for work in works_in_turn(k))
 
 
 def changed_octets():
@@ -369,7 +367,7 @@ def dates_in_octets():
     other_rows = [date_type(date, *years) for date, years in itertools.product(DATES, (BASIC, NEGATIVE_L5))]
     other_rows += [time_type(b"HMS", b"L"), time_type(b"HF3", b"LD"), b"DATE-TIME", b"DATE", b"TIME-OF-DAY"]
     for date, writer in itertools.product(DATES, YEARS_TO_READ):
-        readers = [date_type(date, *years) for years in READERS_YEARS]
+        readers = [date_type(date, *years) for years in YEAR_CHOICES]
         for k, year in enumerate(YEARS_TO_READ[writer]):
             written, text = date_type(date, *writer), year + DATE_TAILS[date]
             octets = fill(bits_of(written, text))
@@ -395,11 +393,11 @@ def times_in_octets():
 
 def date_times_in_octets():
     """Encodings of date-times under other years, times and zones."""
-    for k, (date, years, time, zone) in enumerate(itertools.islice(value_lines.some_date_times(), 2, None, 11)):
+    for k, (date, years, time, zone) in enumerate(itertools.islice(value_lines.some_date_times(), 2, None, 7)):
         clock = time_text(time, (b"12", b"34", b"56"), b"9", value_lines.zone_texts(zone)[-1])
         text = COMMON_YEARS[years[-1]] + DATE_TAILS[date] + b"T" + clock
         written = date_time_type(date, years, time, zone)
-        readers = [date_time_type(date, other, time, zone) for other in READERS_YEARS]
+        readers = [date_time_type(date, other, time, zone) for other in YEAR_CHOICES]
         readers += [date_time_type(DATES[k % 6], years, time, zone), date_time_type(date, years, TIMES[k % 30], zone)]
         readers += [date_time_type(date, years, time, ZONES[k % 3]), date_type(date, *years), time_type(time, zone)]
         for reader in readers:
@@ -410,10 +408,10 @@ def date_times_in_octets():
 def fields_in_octets():
     """Fields of PER at and above their ends, free integers of every length, and filling."""
     for section, step in (
-        (coding_lines.near_years(), 7), (coding_lines.difference_fields(), 5), (coding_lines.filling(), 1),
-        (coding_lines.free_integers(), 7), (coding_lines.free_integer_lengths(), 7), (coding_lines.other_choice(), 3),
-        (coding_lines.fraction_fields(), 7), (coding_lines.fractions_at_hour_24(), 1), (coding_lines.date_fields(), 5),
-        (coding_lines.time_fields(), 7), (coding_lines.causes_in_octets(), 3),
+        (coding_lines.near_years(), 5), (coding_lines.difference_fields(), 3), (coding_lines.filling(), 1),
+        (coding_lines.free_integers(), 4), (coding_lines.free_integer_lengths(), 4), (coding_lines.other_choice(), 2),
+        (coding_lines.fraction_fields(), 5), (coding_lines.fractions_at_hour_24(), 1), (coding_lines.date_fields(), 4),
+        (coding_lines.time_fields(), 5), (coding_lines.causes_in_octets(), 1),
     ):
         yield from of_coding_lines(section, step)
 
@@ -421,7 +419,7 @@ def fields_in_octets():
 def any_values():
     """Values of every form with fields of any number, in every work."""
     numbers = coding_lines.Numbers(3)
-    for _ in range(300):
+    for _ in range(600):
         yield from all_works(*coding_lines.any_value(numbers))
 
 
@@ -455,7 +453,9 @@ def all_orders():
     """Pairs "in any order", in one list and in two."""
     for type_text, text in without_limits(value_lines.all_orders()):
         yield line(b"der", type_text, text)
-    for type_text, text in itertools.islice(without_limits(value_lines.all_orders()), 0, None, 4):
+    some = list(itertools.islice(without_limits(value_lines.all_orders()), 0, None, 4))
+    yield from in_turn(some)
+    for type_text, text in some:
         yield from all_works(type_text, text)
 
 
@@ -467,8 +467,8 @@ def hex_digits():
             mixed = b"".join(capitals[k:k + 1].lower() if k % 3 else capitals[k:k + 1] for k in range(len(capitals)))
             for digits in (capitals, capitals.lower(), mixed, b""):
                 yield line(work, type_text, digits)
-    for k, (type_text, _, _) in enumerate(types_to_refuse()):
-        yield line((b"unper", b"under")[k % 2], type_text, b"")
+    for type_text, _, _ in types_to_refuse():
+        yield from (line(work, type_text, b"") for work in HEX_WORKS)
     yield from (line(b"unper", date_type(b"Y", *NEGATIVE), b"01" + b"%c%c" % (high, low))
                 for high, low in itertools.product(b"0189aAfF", b"0189aAfF"))
     yield from (line(b"under", b"DATE", b"1F1F0832303036303631" + b"%c%c" % (high, low))
@@ -587,40 +587,45 @@ def longest_lines():
     for size in (1023, 1024, 1025, 1026, 2048, 4096, 8192):
         yield questions_in_parts(2 * size + 20, size)
         yield padded(b"", b"x", size) + b"per;DATE;2006-06-13"
-    starts = (b"per;DATE;2006-06-13", b"unper;DATE;0558", b"under;DATE;1F1F083230303630363133")
-    for k, length in enumerate((1027, 1500, 2047, 2048, 2049, 4095, 4096, 4097, 5000, 8191, 8192, 8193, 16384)):
-        yield padded(starts[k % 3], b" 00"[k % 3:k % 3 + 1], length)
+    for length in (1027, 1500, 2047, 2048, 2049, 4095, 4096, 4097, 5000, 8191, 8192, 8193):
+        yield padded(b"per;DATE;2006-06-13", b" ", length)
+        yield padded(b"unper;DATE;0558", b"0", length)
+    for length in (2047, 4095, 5000, 8193):
+        yield padded(b"under;DATE;1F1F083230303630363133", b"0", length)
+    for length in (16384, 32769, 65535, 65536, 65537, 70000):
+        yield padded(b"unper;DATE;0558", b"0", length)
     yield questions_in_parts(70000, 1025)
-    yield padded(b"", b";", 20000)
-    yield padded(b"der;DATE;2006-06-13", b"\x00", 100000)
+    yield padded(b"", b";", 70000)
+    yield padded(b"der;DATE;2006-06-13", b"\x00", 200000)
+    yield questions_in_parts(200000, 1024)
+    yield padded(b"unper;DATE;0558", b"0", 200001)
 
 
-def short_line(k):
-    """A question that no other section asks, but by chance."""
+def short_lines(k):
+    """A question that no other section asks, but by chance, in works in turn."""
     text = b"%02d:%02d:%02d" % (k % 24, 7 * k % 60, 11 * k % 60)
-    work = FOUR_WORKS[k % 4]
-    return line(work, b"TIME-OF-DAY", good_input(work, b"TIME-OF-DAY", text))
+    return [line(work, b"TIME-OF-DAY", good_input(work, b"TIME-OF-DAY", text)) for work in works_in_turn(k)]
 
 
 def long_lines():
-    """Lines of nearly and of more than 1,024 octets, each before a short one."""
+    """Lines of nearly and of more than 1,024 octets, each before a short one or two."""
     lengths = (LONGEST_LINE - 1, LONGEST_LINE, LONGEST_LINE + 1, LONGEST_LINE + 2)
     of_lengths = itertools.chain.from_iterable(map(lines_of_length, lengths))
     for k, each in enumerate(itertools.chain(of_lengths, longest_lines())):
-        yield from (each, short_line(k))
+        yield from (each, *short_lines(k))
 
 
 def long_lines_in_a_row():
     """Long lines with no short ones between, then short ones."""
     yield from (questions_in_parts(length, 1024) for length in (1024, 1025, 2048, 3000, 1024, 1023))
-    yield from map(short_line, range(500, 540))
+    yield from itertools.chain.from_iterable(map(short_lines, range(500, 540)))
 
 
 def runs():
     """Empty lines, lines of one octet, and the same question again."""
     yield from [b""] * 40
     for k in range(60):
-        yield from [short_line(k + 600)] + [b""] * (k % 3)
+        yield from short_lines(k + 600) + [b""] * (k % 3)
     yield from (bytes([octet]) for octet in b";;;;00\r\r\x00\x00 ?per;")
     yield from [b"per;DATE;2006-06-13", b"der;DATE;2006-06-13", b"unper;DATE;0558",
                 b"under;DATE;1F1F083230303630363133"] * 5

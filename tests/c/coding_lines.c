@@ -27,6 +27,28 @@ static const struct anafzir_limits MENU[10] = {
 typedef struct anafzir_outcome (*coder)(const uint8_t *, size_t, struct anafzir_limits, const uint8_t *, size_t, uint8_t *,
                                         size_t);
 
+/* What a line may ask for, by its first octet. */
+static const struct work {
+    int letter;
+    int decodes;
+    coder code;
+} WORKS[] = {
+    {'e', 0, anafzir_per_encode},
+    {'d', 1, anafzir_per_decode},
+    {'t', 0, anafzir_der_encode},
+    {'u', 1, anafzir_der_decode},
+};
+
+enum { WORK_COUNT = sizeof WORKS / sizeof *WORKS };
+
+static const struct work *work_of(int octet)
+{
+    for (size_t i = 0; i < WORK_COUNT; i++)
+        if (WORKS[i].letter == octet)
+            return WORKS + i;
+    return NULL;
+}
+
 static int room_length(int octet)
 {
     if ('a' <= octet && octet <= 'z')
@@ -60,14 +82,14 @@ static long unhex(uint8_t *text, size_t length)
 }
 
 /* One call with a room in the middle of marked octets. */
-static void call(coder code, int hex, struct anafzir_limits limits, const uint8_t *type, size_t type_length,
+static void call(const struct work *work, struct anafzir_limits limits, const uint8_t *type, size_t type_length,
                  const uint8_t *input, size_t input_length, size_t length)
 {
     uint8_t before[GUARD + ROOM + GUARD], after[sizeof before];
     for (size_t i = 0; i < sizeof before; i++)
         before[i] = (uint8_t)(0xA5 ^ (i * 7));
     memcpy(after, before, sizeof before);
-    struct anafzir_outcome o = code(type, type_length, limits, input, input_length, after + GUARD, length);
+    struct anafzir_outcome o = work->code(type, type_length, limits, input, input_length, after + GUARD, length);
     if (o.length > length || (o.number != 0 && (o.length != 0 || o.bits != 0)) || memcmp(before, after, GUARD) != 0
         || memcmp(before + GUARD + o.length, after + GUARD + o.length, sizeof before - GUARD - o.length) != 0) {
         printf("room changed\n");
@@ -77,7 +99,7 @@ static void call(coder code, int hex, struct anafzir_limits limits, const uint8_
     if (o.number == 0) {
         printf(" %" PRIu32 " ", o.bits);
         for (size_t i = 0; i < o.length; i++)
-            printf(hex ? "%02X" : "%c", after[GUARD + i]);
+            printf(work->decodes ? "%c" : "%02X", after[GUARD + i]);
     }
     putchar('\n');
 }
@@ -85,7 +107,8 @@ static void call(coder code, int hex, struct anafzir_limits limits, const uint8_
 static void reply(uint8_t *line, size_t length)
 {
     uint8_t *second = length < 4 || line[3] != ';' ? NULL : memchr(line + 4, ';', length - 4);
-    if (second == NULL || memchr(line, ';', 3) != NULL || line[1] < '0' || '9' < line[1] || room_length(line[2]) < 0) {
+    const struct work *work = second == NULL ? NULL : work_of(line[0]);
+    if (work == NULL || line[1] < '0' || '9' < line[1] || room_length(line[2]) < 0) {
         printf("?\n");
         return;
     }
@@ -93,28 +116,25 @@ static void reply(uint8_t *line, size_t length)
     size_t room = (size_t)room_length(line[2]), type_length = (size_t)(second - line) - 4;
     uint8_t *input = second + 1;
     long input_length = (long)(length - type_length - 5);
-    if (line[0] == 'd')
+    if (work->decodes)
         input_length = unhex(input, (size_t)input_length);
-    if (input_length < 0 || (line[0] != 'e' && line[0] != 'd' && line[0] != 't')) {
+    if (input_length < 0)
         printf("?\n");
-        return;
-    }
-    coder code = line[0] == 'e' ? anafzir_per_encode : line[0] == 'd' ? anafzir_per_decode : anafzir_der_encode;
-    call(code, line[0] != 'd', limits, line + 4, type_length, input, (size_t)input_length, room);
+    else
+        call(work, limits, line + 4, type_length, input, (size_t)input_length, room);
 }
 
 /* Counts have no place in any type: 1, whatever else is wrong, and the room as it was. */
 static void counts(void)
 {
-    const coder coders[] = {anafzir_per_encode, anafzir_per_decode, anafzir_der_encode};
     const char *types[] = {"DATE", "DATE|DATE", "", "Basic=Date Date=Y Year=Basic|Basic=Date Date=Y Year=L5"};
-    for (size_t i = 0; i < sizeof coders / sizeof *coders; i++)
+    for (size_t i = 0; i < WORK_COUNT; i++)
         for (size_t k = 0; k < sizeof types / sizeof *types; k++)
             for (uint32_t count = 1; count != 0; count *= 2) {
                 struct anafzir_limits limits = {0, 0, 0, 0, count, 0, 0};
                 uint8_t room[2] = {1, 2};
-                struct anafzir_outcome o = coders[i]((const uint8_t *)types[k], strlen(types[k]), limits,
-                                                     (const uint8_t *)"2006-06-13", 10, room, sizeof room);
+                struct anafzir_outcome o = WORKS[i].code((const uint8_t *)types[k], strlen(types[k]), limits,
+                                                         (const uint8_t *)"2006-06-13", 10, room, sizeof room);
                 if (o.number != 1 || o.length != 0 || o.bits != 0 || room[0] != 1 || room[1] != 2) {
                     fprintf(stderr, "counts %" PRIu32 " under \"%s\" give %" PRIu32 "\n", count, types[k], o.number);
                     exit(1);
