@@ -48,8 +48,8 @@ static int exists(const int *f)
 /* Where the digits of the six fields stand in a text, and in the octets of DER. */
 static const int IN_TEXT[6] = {0, 5, 8, 11, 14, 17}, IN_ELEMENT[6] = {3, 7, 9, 11, 13, 15};
 
-/* The six fields of digits, and whether all are digits. Here and below nothing is a loop over the fields: at -O2 it would
- * stay one, and take more than twice the time. */
+/* The six fields, and whether all are digits. There is no loop over them: gcc would leave it one at -O2, and make the peer
+ * two or three times slower. */
 ALWAYS_INLINE static int get_digits(const uint8_t *from, const int *places, int *f)
 {
     f[0] = number(from + places[0], 4);

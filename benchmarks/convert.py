@@ -1,5 +1,5 @@
 """Times `convert` on a million lines of each work beside `cat`, a plain copy of the same input, in one run, and prints the best
-of five rounds of each.
+of five rounds of each, and the ratio of their times.
 
 First build it: rt check convert
 """
@@ -45,13 +45,14 @@ def run(program, file):
 
 
 def compare(work, make):
-    """One row: lines a second of both."""
+    """One row: lines a second of both, and the ratio."""
     with tempfile.NamedTemporaryFile() as file:
         file.write(b"".join(work + b";DATE-TIME;" + make(k) + b"\n" for k in range(COUNT)))
         file.flush()
         rounds = [(run(CONVERT, file.name), run("cat", file.name)) for _ in range(5)]
     ours, copy = (min(each[k] for each in rounds) for k in (0, 1))
-    print(f"{work.decode()}: convert {COUNT / ours / 1e6:.2f} million lines a second, cat {COUNT / copy / 1e6:.0f} million")
+    speeds = f"convert {COUNT / ours / 1e6:.2f} million lines a second, cat {COUNT / copy / 1e6:.0f} million"
+    print(f"{work.decode()}: {speeds}, ratio {ours / copy:.0f}")
 
 
 if __name__ == "__main__":
