@@ -38,9 +38,9 @@ def statements():
     theorems = rest.split(THEOREMS)[1]
     signatures, inside = [], False
     for line in theorems.split("\n"):
-        if re.match(r"\s*pub demand-|module _", line):
+        if re.match(r"\s*pub demand|module _", line):
             inside = True
-        elif re.match(r"\s*(unfolding |demand-\S+ .*=|demand-\S+ =)", line):
+        elif re.match(r"\s*(unfolding |demand\S+ .*=|demand\S+ =)", line):
             inside = False
         if inside:
             signatures.append(line)
