@@ -16,7 +16,7 @@ use printing::text_into;
 use texts::TextRead;
 use texts::Value;
 use types::Type;
-use values::Admission;
+use values::Judgement;
 use values::judge;
 
 // Puts the text of a value at the front of the room, where the octets that it was read from are its own.
@@ -49,9 +49,9 @@ pub fn decode(t: Type, octets: &[u8], room: &mut [u8]) -> Outcome
     let TextRead::Value(value, _) = read_element(name, t.form(), octets) else {
         return Outcome::refused(Refusal::Form);
     };
-    let admission = judge(t, value);
-    match admission {
-        Admission::Value(value) => compare(t, octets, value, room),
-        Admission::Refused(why) => Outcome::refused(why),
+    let judgement = judge(t, value);
+    match judgement {
+        Judgement::Held => compare(t, octets, value, room),
+        Judgement::Refused(why) => Outcome::refused(why),
     }
 }

@@ -18,6 +18,7 @@ use types::Years;
 use unpacking::ValueRead;
 use unpacking::unpack;
 use values::Admission;
+use values::Judgement;
 use values::admit;
 use values::deliver_text;
 use values::judge;
@@ -102,9 +103,9 @@ pub fn decode(t: Type, octets: &[u8], room: &mut [u8]) -> Outcome
     let ValueRead::Value(value) = unpack(row_of(t), t.form(), octets) else {
         return Outcome::refused(Refusal::Form);
     };
-    let admission = judge(t, value);
-    match admission {
-        Admission::Value(value) => compare(t, octets, value, room),
-        Admission::Refused(why) => Outcome::refused(why),
+    let judgement = judge(t, value);
+    match judgement {
+        Judgement::Held => compare(t, octets, value, room),
+        Judgement::Refused(why) => Outcome::refused(why),
     }
 }

@@ -9,6 +9,12 @@ use texts::TextRead;
 use texts::Value;
 use types::Type;
 
+// What is judged of a value of a type's form: the type holds it, or the refusal.
+pub enum Judgement {
+    Held,
+    Refused(Refusal),
+}
+
 // The value that a text gives under a type, or the refusal.
 pub enum Admission {
     Value(Value),
@@ -16,16 +22,16 @@ pub enum Admission {
 }
 
 // A value of the type's form: whether it exists, and whether it is in the type.
-pub fn judge(t: Type, value: Value) -> Admission
+pub fn judge(t: Type, value: Value) -> Judgement
     ensures { λ r. ⌜ r ≡ judged t value ⌝ }
 {
     if !value_exists(value) {
-        return Admission::Refused(Refusal::Existence);
+        return Judgement::Refused(Refusal::Existence);
     }
     if in_type(t, value) {
-        return Admission::Value(value);
+        return Judgement::Held;
     }
-    Admission::Refused(Refusal::Membership)
+    Judgement::Refused(Refusal::Membership)
 }
 
 // What a text of any octets gives under any type.
@@ -38,5 +44,9 @@ pub fn admit(t: Type, text: &[u8]) -> Admission
     let TextRead::Value(value, _) = read_text(t.form(), text) else {
         return Admission::Refused(Refusal::Form);
     };
-    judge(t, value)
+    let judgement = judge(t, value);
+    match judgement {
+        Judgement::Held => Admission::Value(value),
+        Judgement::Refused(why) => Admission::Refused(why),
+    }
 }

@@ -7,6 +7,7 @@ pub mod holding;
 pub mod written;
 
 pub use admission::Admission;
+pub use admission::Judgement;
 pub use admission::admit;
 pub use admission::judge;
 pub use answers::Bits;

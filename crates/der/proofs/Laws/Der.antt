@@ -205,7 +205,7 @@ der-decoded-short = decoded-short nameOf elementOf (λ name v. noBits) readEleme
 pub der-admitted : (t : Ty) (text : List ℕ) → derEncoded t text ≡ answerOf elementOf (λ name v. noBits) (nameOf t) (admitted t text)
 der-admitted = encoded-admitted nameOf elementOf (λ name v. noBits) readElement
 
--- What is judged of a value is an admission.
+-- What is judged of a value, as the code has it.
 pub der-judged-as : (t : Ty) (v : Value) (answer : Answer) → judgedAs der t v answer ≡ answerWith answer (judged t v)
 der-judged-as = judged-as nameOf elementOf (λ name v. noBits) readElement
 

@@ -21,11 +21,12 @@ use Rattle.texts.specs.declared.values.Value.{Value}
 use Rattle.types.specs.Types.{formOf, wellFormed}
 use Rattle.types.specs.declared.types.«Type».{«Type» as Ty}
 use Rattle.printing.proofs.Laws.Canonical.{text-length}
-use Rattle.values.specs.Admission.{admitted, judged, judgedRead, textNumber}
+use Rattle.values.specs.Admission.{admitted, givenAs, judged, judgedRead, textNumber}
 use Rattle.values.specs.Existence.{existsValue}
 use Rattle.values.specs.Forms.{sameForm}
 use Rattle.values.specs.Holding.{holdsOf, inType}
 use Rattle.values.specs.declared.admission.Admission.{Admission}
+use Rattle.values.specs.declared.admission.Judgement.{Judgement}
 use Rattle.values.proofs.Laws.Existing.{exists-digits, held-fits, held-read}
 use Rattle.values.proofs.Laws.Holding.{form-same, held, holds-both, in-type, same-form}
 use Rattle.kinds.specs.Kinds.{Option, some, none}
@@ -40,9 +41,9 @@ answerOf encoding count row (Admission.Value v) = done (encoding row v) (count r
 answerOf encoding count row (Admission.Refused why) = refused why
 
 -- What is answered where a type holds a value, or the refusal.
-abbrev pub answerWith : Answer → Admission → Answer
-answerWith answer (Admission.Value v) = answer
-answerWith answer (Admission.Refused why) = refused why
+abbrev pub answerWith : Answer → Judgement → Answer
+answerWith answer Judgement.Held = answer
+answerWith answer (Judgement.Refused why) = refused why
 
 -- The canonical text of a value that a type holds is of the type's form, ..
 pub own-form : (t : Ty) (v : Value) → holdsOf t v ≡ true → textNumber (readOf (formOf t) (textOf v)) ≡ 0
@@ -100,7 +101,7 @@ module _ {R : Type 0} (row : Ty → R) (encoding : R → Value → List ℕ) (co
       formed true (TextRead.Value v s) = real (existsValue v) (inType t v)
         where
           real : (a b : Bool) → cond a (cond b (done (encoding (row t) v) (count (row t) v)) (refused Refusal.Membership)) (refused Refusal.Existence)
-              ≡ answerOf encoding count (row t) (cond a (cond b (Admission.Value v) (Admission.Refused Refusal.Membership)) (Admission.Refused Refusal.Existence))
+              ≡ answerOf encoding count (row t) (givenAs v (cond a (cond b Judgement.Held (Judgement.Refused Refusal.Membership)) (Judgement.Refused Refusal.Existence)))
           real false b = refl
           real true false = refl
           real true true = refl
@@ -111,7 +112,7 @@ module _ {R : Type 0} (row : Ty → R) (encoding : R → Value → List ℕ) (co
   judged-as t v answer = go (existsValue v) (inType t v)
     where
       go : (a b : Bool) → cond a (cond b answer (refused Refusal.Membership)) (refused Refusal.Existence)
-          ≡ answerWith answer (cond a (cond b (Admission.Value v) (Admission.Refused Refusal.Membership)) (Admission.Refused Refusal.Existence))
+          ≡ answerWith answer (cond a (cond b Judgement.Held (Judgement.Refused Refusal.Membership)) (Judgement.Refused Refusal.Existence))
       go false b = refl
       go true false = refl
       go true true = refl

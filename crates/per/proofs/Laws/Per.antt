@@ -88,7 +88,7 @@ bits-read nothing = refl
 pub per-admitted : (t : Ty) (text : List ℕ) → perEncoded t text ≡ answerOf encodingOf countOf (rowOf t) (admitted t text)
 per-admitted = encoded-admitted rowOf encodingOf countOf bitsGiven
 
--- What is judged of a value is an admission.
+-- What is judged of a value, as the code has it.
 pub per-judged-as : (t : Ty) (v : Value) (answer : Answer) → judgedAs per t v answer ≡ answerWith answer (judged t v)
 per-judged-as = judged-as rowOf encodingOf countOf bitsGiven
 

@@ -36,11 +36,12 @@ use Rattle.texts.specs.declared.values.Value.{Value}
 use Rattle.texts.specs.declared.values.Zone.{Zone}
 use Rattle.values.proofs.Laws.Existence.{ZoneInRange, time-range}
 use Rattle.values.proofs.Laws.Holding.{date-admitted, held, holds-both, in-type, years-range}
-use Rattle.values.specs.Admission.{admitted, judged, judgedRead, textNumber}
+use Rattle.values.specs.Admission.{admitted, givenAs, judged, judgedRead, textNumber}
 use Rattle.values.specs.Existence.{existsTime, existsValue, hoursOf, minutesOf, secondsOf}
 use Rattle.values.specs.Holding.{admits, admitsDate, admitsTime, between, holdsOf, inType}
 use Rattle.values.specs.Written.{printed}
 use Rattle.values.specs.declared.admission.Admission.{Admission}
+use Rattle.values.specs.declared.admission.Judgement.{Judgement}
 
 -- ---- what exists fits
 
@@ -141,14 +142,22 @@ module _ (t : Ty) (v : Value) (h : holdsOf t v ≡ true) where
   unfolding admitted judged
   held-admitted w s = let p = held t v h in rw (w, held-read s, p .0, p .1)
 
-pub judged-held : (t : Ty) (w v : Value) → judged t w ≡ Admission.Value v → (holdsOf t v ≡ true) × (w ≡ v)
+-- What is judged to be held is held, ..
+pub judged-held : (t : Ty) (v : Value) → judged t v ≡ Judgement.Held → holdsOf t v ≡ true
 unfolding judged
-judged-held t w v = go (existsValue w) refl (inType t w) refl where
-  go : (a : Bool) → existsValue w ≡ a → (b : Bool) → inType t w ≡ b →
-      cond a (cond b (Admission.Value w) (Admission.Refused Refusal.Membership)) (Admission.Refused Refusal.Existence) ≡ Admission.Value v → (holdsOf t v ≡ true) × (w ≡ v)
-  go true x true y g = let z : w ≡ v = cc in (rw (← z) (holds-both t w x y), z)
+judged-held t v = go (existsValue v) refl (inType t v) refl where
+  go : (a : Bool) → existsValue v ≡ a → (b : Bool) → inType t v ≡ b →
+      cond a (cond b Judgement.Held (Judgement.Refused Refusal.Membership)) (Judgement.Refused Refusal.Existence) ≡ Judgement.Held → holdsOf t v ≡ true
+  go true x true y g = holds-both t v x y
   go true x false y g = absurd (let z : _≡_ {A = ℕ} 0 1 = cc in omega arith)
   go false x b y g = absurd (let z : _≡_ {A = ℕ} 0 1 = cc in omega arith)
+
+-- .. and what is then given is the value that was judged.
+given-held : (t : Ty) (w v : Value) → givenAs w (judged t w) ≡ Admission.Value v → (holdsOf t v ≡ true) × (w ≡ v)
+given-held t w v = go (judged t w) refl where
+  go : (j : Judgement) → judged t w ≡ j → givenAs w j ≡ Admission.Value v → (holdsOf t v ≡ true) × (w ≡ v)
+  go Judgement.Held e g = let z : w ≡ v = cc in (rw (← z) (judged-held t w e), z)
+  go (Judgement.Refused why) e g = absurd (let z : _≡_ {A = ℕ} 0 1 = cc in omega arith)
 
 -- What a text gives under a type is a value that the type holds, and the text is one of its spellings.
 pub admitted-held : (t : Ty) (l : List ℕ) (v : Value) → admitted t l ≡ Admission.Value v →
@@ -158,7 +167,7 @@ admitted-held t l v = go (wellFormed t) refl (readOf (formOf t) l) refl where
   go : (a : Bool) → wellFormed t ≡ a → (r : TextRead) → readOf (formOf t) l ≡ r → cond a (judgedRead t r) (Admission.Refused Refusal.Settings) ≡ Admission.Value v →
       (wellFormed t ≡ true) × (holdsOf t v ≡ true) × (s : Spelling) × (l ≡ render s v)
   go true x (TextRead.Value w s) y g =
-      let p = judged-held t w v g in
+      let p = given-held t w v g in
       let q = render-read longest (omega arith) (omega arith) (formOf t) l w s y in
       (x, p .0, s, q .0 ∙ ap (render s) (p .1))
   go true x TextRead.NotOfForm y g = absurd (let z : _≡_ {A = ℕ} 0 1 = cc in omega arith)

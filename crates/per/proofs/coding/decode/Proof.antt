@@ -47,14 +47,14 @@ returns-2 c = rw (sym (c .before .before .before .before .before .before .before
 judge-requires : tie.Need-judge-requires
 judge-requires c κs = search needs
 
-enum-known-admission : tie.Need-enum-known-admission
-enum-known-admission c = search needs
+enum-told-2 : tie.Need-enum-told-2
+enum-told-2 c = search needs
 
 compare-requires : tie.Need-compare-requires
-compare-requires c κs = held _ _ (judged-held _ _ _ (sym (c .before .before .before .before .judge .ensures) ∙ c .before .before .admission .given .1) .0) .0
+compare-requires c κs = held _ _ (judged-held _ _ (sym (c .before .before .before .judge .ensures) ∙ c .before .enum-told2 .given .1)) .0
 
-enum-known-admission-2 : tie.Need-enum-known-admission-2
-enum-known-admission-2 c = search needs
+enum-known-judgement : tie.Need-enum-known-judgement
+enum-known-judgement c = search needs
 
 refused-requires-3 : tie.Need-refused-requires-3
 refused-requires-3 c κs = search needs
@@ -64,11 +64,11 @@ same-length c = search needs
 
 returns-3 : tie.Need-returns-3
 unfolding decoded judgedOctets
-returns-3 c = rw (sym (c .before .before .before .before .before .before .before .before .before .before .before .before .before .before .before .well-formed .ensures) ∙ not-false _ (c .before .before .before .before .before .before .before .before .before .before .before .before .before .before .if1 .left), ← c .before .before .before .before .before .before .before .before .before .before .before .before .before .row-of .ensures, ← c .before .before .before .before .before .before .before .before .before .before .before .before .form .ensures, bits-read (readOctets (c .before .before .before .before .before .before .before .before .before .before .before .before .before .row-of .result) (c .before .before .before .before .before .before .before .before .before .before .before .before .form .result) (now (c .before .before .before .before .before .before .before .before .before .before .before .before .before .before .before .before .before .before .args .octets))), sym (c .before .before .before .before .before .before .before .before .before .before .before .unpack .ensures) ∙ c .before .before .before .before .before .before .before .before .before .value .given .1, per-judged-as _ _ _, sym (c .before .before .before .before .before .before .before .judge .ensures) ∙ c .before .before .before .before .before .admission .given .1, judged-held _ _ _ (sym (c .before .before .before .before .before .before .before .judge .ensures) ∙ c .before .before .before .before .before .admission .given .1) .1) (c .before .before .compare .ensures)
+returns-3 c = rw (sym (c .before .before .before .before .before .before .before .before .before .before .before .before .before .before .well-formed .ensures) ∙ not-false _ (c .before .before .before .before .before .before .before .before .before .before .before .before .before .if1 .left), ← c .before .before .before .before .before .before .before .before .before .before .before .before .row-of .ensures, ← c .before .before .before .before .before .before .before .before .before .before .before .form .ensures, bits-read (readOctets (c .before .before .before .before .before .before .before .before .before .before .before .before .row-of .result) (c .before .before .before .before .before .before .before .before .before .before .before .form .result) (now (c .before .before .before .before .before .before .before .before .before .before .before .before .before .before .before .before .before .args .octets))), sym (c .before .before .before .before .before .before .before .before .before .before .unpack .ensures) ∙ c .before .before .before .before .before .before .before .before .value .given .1, per-judged-as _ _ _, sym (c .before .before .before .before .before .before .judge .ensures) ∙ c .before .before .before .before .enum-told2 .given .1) (c .before .before .compare .ensures)
 
 returns-4 : tie.Need-returns-4
 unfolding decoded judgedOctets outcomeOf roomOf
-returns-4 c = rw (sym (c .before .before .before .before .before .before .before .before .before .before .before .before .well-formed .ensures) ∙ not-false _ (c .before .before .before .before .before .before .before .before .before .before .before .if1 .left), ← c .before .before .before .before .before .before .before .before .before .before .row-of .ensures, ← c .before .before .before .before .before .before .before .before .before .form .ensures, bits-read (readOctets (c .before .before .before .before .before .before .before .before .before .before .row-of .result) (c .before .before .before .before .before .before .before .before .before .form .result) (now (c .before .before .before .before .before .before .before .before .before .before .before .before .before .before .before .args .octets))), sym (c .before .before .before .before .before .before .before .before .unpack .ensures) ∙ c .before .before .before .before .before .before .value .given .1, per-judged-as _ _ _, sym (c .before .before .before .before .judge .ensures) ∙ c .before .before .admission2 .given .1) (c .refused3 .ensures, refl)
+returns-4 c = rw (sym (c .before .before .before .before .before .before .before .before .before .before .before .before .well-formed .ensures) ∙ not-false _ (c .before .before .before .before .before .before .before .before .before .before .before .if1 .left), ← c .before .before .before .before .before .before .before .before .before .before .row-of .ensures, ← c .before .before .before .before .before .before .before .before .before .form .ensures, bits-read (readOctets (c .before .before .before .before .before .before .before .before .before .before .row-of .result) (c .before .before .before .before .before .before .before .before .before .form .result) (now (c .before .before .before .before .before .before .before .before .before .before .before .before .before .before .before .args .octets))), sym (c .before .before .before .before .before .before .before .before .unpack .ensures) ∙ c .before .before .before .before .before .before .value .given .1, per-judged-as _ _ _, sym (c .before .before .before .before .judge .ensures) ∙ c .before .before .judgement .given .1) (c .refused3 .ensures, refl)
 
 pub decode-spec : {M : Type 1} → statement M
 decode-spec =
@@ -85,9 +85,9 @@ decode-spec =
     refused-requires-2
     returns-2
     judge-requires
-    enum-known-admission
+    enum-told-2
     compare-requires
-    enum-known-admission-2
+    enum-known-judgement
     refused-requires-3
     same-length
     returns-3

@@ -1,8 +1,8 @@
 -- `admission::admit` meets its contract: a type, a text of its form, a value that it holds.
-use mathlib.Core.Path.{_∙_, sym}
-use borrow.Author.Needs.{needs}
+use mathlib.Core.Path.{sym, _∙_}
 use borrow.Author.Tests.{not-false, not-true}
 use Rattle.values.specs.Admission.{admitted}
+use borrow.Author.Needs.{needs}
 use Rattle.values.proofs.admission.admit.Statement.{statement}
 use Rattle.values.proofs.admission.admit.Tie as tie
 
@@ -32,9 +32,19 @@ returns-2 c = rw (sym (c .before .before .before .before .before .well-formed .e
 judge-requires : tie.Need-judge-requires
 judge-requires c κs = search needs
 
+enum-told-2 : tie.Need-enum-told-2
+enum-told-2 c = search needs
+
+enum-known-judgement : tie.Need-enum-known-judgement
+enum-known-judgement c = search needs
+
 returns-3 : tie.Need-returns-3
 unfolding admitted
-returns-3 c = rw (sym (c .before .before .before .before .before .before .before .well-formed .ensures) ∙ not-false _ (c .before .before .before .before .before .before .if1 .left), ← c .before .before .before .before .before .form .ensures, sym (c .before .before .before .before .read-text .ensures) ∙ c .before .before .value .given .1) (c .judge .ensures)
+returns-3 c = rw (sym (c .before .before .before .before .before .before .before .before .before .well-formed .ensures) ∙ not-false _ (c .before .before .before .before .before .before .before .before .if1 .left), ← c .before .before .before .before .before .before .before .form .ensures, sym (c .before .before .before .before .before .before .read-text .ensures) ∙ c .before .before .before .before .value .given .1, sym (c .before .before .judge .ensures) ∙ c .enum-told2 .given .1)
+
+returns-4 : tie.Need-returns-4
+unfolding admitted
+returns-4 c = rw (sym (c .before .before .before .before .before .before .before .before .before .before .well-formed .ensures) ∙ not-false _ (c .before .before .before .before .before .before .before .before .before .if1 .left), ← c .before .before .before .before .before .before .before .before .form .ensures, sym (c .before .before .before .before .before .before .before .read-text .ensures) ∙ c .before .before .before .before .before .value .given .1, sym (c .before .before .before .judge .ensures) ∙ c .before .judgement .given .1)
 
 pub admit-spec : {M : Type 1} → statement M
 admit-spec =
@@ -48,4 +58,7 @@ admit-spec =
     enum-told
     returns-2
     judge-requires
-    returns-3)
+    enum-told-2
+    enum-known-judgement
+    returns-3
+    returns-4)
