@@ -45,7 +45,7 @@ use Rattle.der.specs.Readings.{allDigits, digitsOnly, readContents, read
 -- ---- digits are kept
 
 -- no digit is a separator
-digit-kept : (name : Name) (c : ℕ) → 48 ≤ c → c ≤ 57 → omits name c ≡ false
+pub digit-kept : (name : Name) (c : ℕ) → 48 ≤ c → c ≤ 57 → omits name c ≡ false
 digit-kept Name.Listed c h k = refl
 digit-kept Name.Date c h k = ne-eqb c hyphen (λ e. omega arith)
 digit-kept Name.TimeOfDay c h k = ne-eqb c colon (λ e. omega arith)

@@ -4,7 +4,7 @@ use mathlib.Core.Bool.{Bool, true, false, _&&_, cond}
 use mathlib.Core.List.{List, [], _∷_, _++_, append-assoc}
 use Prim.Native.Nat.{ℕ, _≤_}
 use native.Mathlib.Omega.{arith}
-use lib.Dec.{leb}
+use lib.Dec.{eqb, leb}
 use lib.ListN.{length, length-append, take, drop, take-append-drop}
 use lib.Seq.{length-take-le, take-append-seam, drop-append-seam}
 use borrow.Author.Tests.{le-leb, leb-true}
@@ -12,23 +12,83 @@ use Rattle.calendar.proofs.Laws.Bools.{both}
 use Rattle.kinds.specs.Kinds.{Option, some, none}
 use Rattle.lists.specs.Octets.{eqList}
 use Rattle.lists.proofs.Laws.Octets.{equal, equal-test}
+use Rattle.texts.specs.Octets.{colon, hyphen, isDigit, letterT}
 use Rattle.texts.specs.Texts.{readOf, render}
 use Rattle.texts.specs.Years.{longest}
 use Rattle.texts.specs.declared.forms.Form.{Form}
 use Rattle.texts.specs.declared.texts.TextRead.{TextRead}
 use Rattle.texts.specs.declared.values.Spelling.{Spelling}
 use Rattle.texts.specs.declared.values.Value.{Value}
+use Rattle.texts.proofs.Laws.Digits.{is-digit-back}
 use Rattle.texts.proofs.Laws.Texts.{render-read}
 use Rattle.types.specs.declared.types.Name.{Name}
 use Rattle.encodings.specs.Encodings.{ofText}
-use Rattle.der.specs.Elements.{element, tagOf}
+use Rattle.der.specs.Elements.{contentsOf, element, omits, tagOf, without}
 use Rattle.der.specs.Loose.{Readable, StandsFor}
-use Rattle.der.specs.Readings.{digitsOnly, readContents, readElement, readLength}
+use Rattle.der.specs.Readings.{allDigits, dated, digitsOnly, readContents, readElement, readLength, separated, timed}
+use Rattle.der.proofs.Laws.Contents.{digit-kept, without-none}
 
 -- A test that lets something through held.
 let-through : {A : Type 0} (b : Bool) (o : Option A) (a : A) → cond b o none ≡ some a → (b ≡ true) × (o ≡ some a)
 let-through true o a e = (refl, e)
 let-through false o a e = absurd (let z : _≡_ {A = ℕ} 0 1 = cc in omega arith)
+
+-- ---- the contents that stand for a text are the text's
+
+kept-all : (name : Name) (l : List ℕ) → allDigits l ≡ true → without (omits name) l ≡ l
+unfolding without allDigits
+kept-all name [] a = refl
+kept-all name (c ∷ l) a =
+    let p = both (isDigit c) (allDigits l) a in
+    let d = is-digit-back c (p .0) in
+    rw (digit-kept name c (d .0) (d .1)) (ap (λ (r : List ℕ). c ∷ r) (kept-all name l (p .1)))
+
+without-append : (p : ℕ → Bool) (a b : List ℕ) → without p (a ++ b) ≡ without p a ++ without p b
+unfolding without
+without-append p [] b = refl
+without-append p (c ∷ a) b = go (p c) (without-append p a b)
+  where
+    go : (t : Bool) → without p (a ++ b) ≡ without p a ++ without p b
+        → cond t (without p (a ++ b)) (c ∷ without p (a ++ b)) ≡ cond t (without p a) (c ∷ without p a) ++ without p b
+    go true e = e
+    go false e = ap (λ (r : List ℕ). c ∷ r) e
+
+digits-both : (a b : List ℕ) → allDigits (a ++ b) ≡ true → (allDigits a ≡ true) × (allDigits b ≡ true)
+unfolding allDigits
+digits-both [] b e = (refl, e)
+digits-both (c ∷ a) b e =
+    let p = both (isDigit c) (allDigits (a ++ b)) e in
+    let q = digits-both a b (p .1) in
+    (rw (p .0) (q .0), q .1)
+
+separated-kept : (name : Name) (c w : ℕ) (l : List ℕ) → omits name c ≡ true → allDigits l ≡ true → without (omits name) (separated c w l) ≡ l
+unfolding separated without
+separated-kept name c w l o a =
+    without-append (omits name) (take w l) (c ∷ (take 2 (drop w l) ++ c ∷ drop 2 (drop w l)))
+    ∙ rw (o, without-append (omits name) (take 2 (drop w l)) (c ∷ drop 2 (drop w l)), o)
+    (ap (λ (r : List ℕ). without (omits name) (take w l) ++ r) (sym (without-append (omits name) (take 2 (drop w l)) (drop 2 (drop w l))))
+    ∙ sym (without-append (omits name) (take w l) (take 2 (drop w l) ++ drop 2 (drop w l)))
+    ∙ ap (without (omits name)) (ap (λ (r : List ℕ). take w l ++ r) (take-append-drop 2 (drop w l)) ∙ take-append-drop w l)
+    ∙ kept-all name l a)
+
+digits-in : (n : ℕ) (l : List ℕ) → digitsOnly n l ≡ true → allDigits l ≡ true
+unfolding digitsOnly
+digits-in n l e = both (eqb (length l) n) (allDigits l) e .1
+
+-- Under every name they are the text without its separators.
+pub stands-for : (name : Name) (l text : List ℕ) → StandsFor name l text → contentsOf name text ≡ l
+unfolding contentsOf without
+stands-for Name.Listed l text e = without-none text ∙ e
+stands-for Name.Date l text e = ap (without (omits Name.Date)) (e .1) ∙ separated-kept Name.Date hyphen 4 l refl (digits-in 8 l (e .0))
+stands-for Name.TimeOfDay l text e = ap (without (omits Name.TimeOfDay)) (e .1) ∙ separated-kept Name.TimeOfDay colon 2 l refl (digits-in 6 l (e .0))
+stands-for Name.DateTime l text e =
+    let d = digits-both (take 8 l) (drop 8 l) (rw (take-append-drop 8 l) (digits-in 14 l (e .0))) in
+    ap (without (omits Name.DateTime)) (e .1)
+    ∙ without-append (omits Name.DateTime) (dated (take 8 l)) (letterT ∷ timed (drop 8 l))
+    ∙ rw (separated-kept Name.DateTime hyphen 4 (take 8 l) refl (d .0), separated-kept Name.DateTime colon 2 (drop 8 l) refl (d .1))
+    (take-append-drop 8 l)
+
+-- ---- what is read
 
 module _ (form : Form) (v : Value) where
   -- What a text gives is a text of it, in the spelling that was read.
