@@ -1,46 +1,41 @@
 -- Contents are the text without its separators, and these can be put back.
-use mathlib.Core.Path.{_≡_, refl, ap, sym, _∙_}
+use mathlib.Core.Path.{_≡_, refl, ap, _∙_}
 use mathlib.Core.Bool.{Bool, true, false, _&&_, _||_, not, cond, false≢true}
 use mathlib.Core.List.{List, [], _∷_, _++_, append-assoc, append-nil}
 use Prim.Native.Nat.{ℕ, zero, suc, _+_, _/_, _%_, _≤_, _<_}
 use native.Mathlib.Omega.{arith}
-use lib.Dec.{eqb, leb, ltb}
+use lib.Dec.{eqb, leb}
 use lib.IntN.{ℤ, pos, negsuc}
-use lib.ListN.{length, length-append, take, drop, getD, drop-of-length-le}
-use lib.Seq.{take-at, drop-at, drop-cons, take-all}
+use lib.ListN.{length, length-append, drop, getD, drop-of-length-le}
+use lib.Seq.{take-at, drop-at, drop-cons}
 use native.Mathlib.Numerals.{add-one}
-use borrow.Author.Tests.{eq-eqb, eqb-true, leb-true, le-leb, lt-ltb, ne-eqb}
+use borrow.Author.Tests.{eqb-true, leb-true, lt-ltb, ne-eqb}
 use Rattle.calendar.specs.Years.{astronomicalOf}
 use Rattle.calendar.specs.declared.dates.Date.{Date}
 use Rattle.calendar.proofs.Laws.Bools.{both}
 use Rattle.texts.specs.Dates.{putAfter, putDate}
 use Rattle.texts.specs.Digits.{putDigits}
-use Rattle.texts.specs.Forms.{clockForm, dateForm, timeForm, valueForm, zoneForm, yearOf}
-use Rattle.texts.specs.Octets.{hyphen, colon, letterT, isDigit}
-use Rattle.texts.specs.Texts.{readOf, render, textOf}
+use Rattle.texts.specs.Forms.{clockForm, dateForm, timeForm, zoneForm, yearOf}
+use Rattle.texts.specs.Octets.{hyphen, colon, letterT}
 use Rattle.texts.specs.Times.{canonical, putClock, putFraction, putTime, putZone}
 use Rattle.texts.specs.Years.{yearText}
 use Rattle.texts.specs.declared.forms.DateForm.{DateForm}
-use Rattle.texts.specs.declared.forms.Form.{Form}
 use Rattle.texts.specs.declared.forms.TimeForm.{TimeForm}
 use Rattle.texts.specs.declared.values.Clock.{Clock}
 use Rattle.texts.specs.declared.values.Time.{Time}
-use Rattle.texts.specs.declared.values.Value.{Value}
 use Rattle.texts.specs.declared.values.Zone.{Zone}
 use Rattle.texts.proofs.Laws.Digits.{is-digit, length-put}
 use Rattle.types.specs.Numbers.{clockNumber, dateNumber, zoneNumber}
-use Rattle.types.specs.Types.{basicAlone, basicYmd, formOfParts, localHms, ownSettings}
+use Rattle.types.specs.Types.{basicAlone, basicYmd, localHms}
 use Rattle.types.specs.declared.types.DateType.{DateType}
 use Rattle.types.specs.declared.types.Name.{Name}
-use Rattle.types.specs.declared.types.Parts.{Parts}
 use Rattle.types.specs.declared.types.TimeType.{TimeType}
 use Rattle.types.specs.declared.types.Years.{Years}
-use Rattle.values.specs.Holding.{admits, admitsDate, between, inBasic, inProleptic, inYears}
+use Rattle.values.specs.Holding.{admitsDate, between, inBasic, inProleptic, inYears}
 use Rattle.values.proofs.Laws.Existence.{three}
 use Rattle.values.proofs.Laws.Holding.{date-admitted}
-use Rattle.encodings.specs.Encodings.{ofText}
 use Rattle.der.specs.Elements.{contentsOf, element, omits, tagOf, without}
-use Rattle.der.specs.Readings.{allDigits, digitsOnly, readContents, readElement, separated}
+use Rattle.der.specs.Readings.{allDigits, separated}
 
 -- ---- digits are kept
 
