@@ -9,8 +9,8 @@ use lines::reply;
 use lists::lists::find;
 ghost use Prim.Native.Nat.{_+_, _<_, _≤_};
 ghost use lib.ListN.{length};
-ghost use Rattle.lines.specs.Lines.{longest};
-ghost use Rattle.lines.specs.Rooms.{capacity};
+ghost use Rattle.lines.specs.Lines.{longestLine};
+ghost use Rattle.lines.specs.Rooms.{replyCapacity};
 
 // What is kept between reads: so many octets of an unfinished line at the front of the input's buffer, whether the rest
 // of that line is skipped because it is too long, and how many octets of replies stand in the output's buffer.
@@ -35,8 +35,8 @@ fn write_out(output: &[u8], used: usize)
 
 // Writes the replies out where another might not have its place behind them. How many octets are left.
 fn make_place(output: &[u8], used: usize) -> usize
-    requires { ⌜ (used ≤ length (now output)) × (capacity ≤ length (now output)) ⌝ }
-    ensures { λ r. ⌜ r + capacity ≤ length (now (output .entry)) ⌝ }
+    requires { ⌜ (used ≤ length (now output)) × (replyCapacity ≤ length (now output)) ⌝ }
+    ensures { λ r. ⌜ r + replyCapacity ≤ length (now (output .entry)) ⌝ }
 {
     if output.len() - used < REPLY_CAPACITY {
         write_out(output, used);
@@ -47,7 +47,7 @@ fn make_place(output: &[u8], used: usize) -> usize
 
 // Puts the reply to a line behind those that are there. How many octets there are now.
 fn put_reply(line: &[u8], output: &mut [u8], used: usize) -> usize
-    requires { ⌜ (used ≤ length (now output)) × (capacity ≤ length (now output)) ⌝ }
+    requires { ⌜ (used ≤ length (now output)) × (replyCapacity ≤ length (now output)) ⌝ }
     ensures { λ r. ⌜ r ≤ length (now (output .entry)) ⌝ }
 {
     let place = make_place(output, used);
@@ -56,7 +56,7 @@ fn put_reply(line: &[u8], output: &mut [u8], used: usize) -> usize
 
 // Replies to all lines that end in the text, from a place on.
 fn reply_all(text: &[u8], start: usize, output: &mut [u8], used: usize) -> Progress
-    requires { ⌜ (start ≤ length (now text)) × (used ≤ length (now output)) × (capacity ≤ length (now output)) ⌝ }
+    requires { ⌜ (start ≤ length (now text)) × (used ≤ length (now output)) × (replyCapacity ≤ length (now output)) ⌝ }
     ensures { λ r. ⌜ (r .start ≤ length (now (text .entry))) × (r .used ≤ length (now (output .entry))) ⌝ }
 {
     let mut from = start;
@@ -91,8 +91,8 @@ fn move_front(input: &mut [u8], start: usize, end: usize)
 
 // Keeps the start of a line at the front, or replies to a line that is too long already and skips the rest of it.
 fn keep(input: &mut [u8], start: usize, end: usize, output: &mut [u8], used: usize) -> State
-    requires { ⌜ (start ≤ end) × (end ≤ length (now input)) × (used ≤ length (now output)) × (capacity ≤ length (now output)) ⌝ }
-    ensures { λ r. ⌜ (r .held ≤ longest) × (r .used ≤ length (now (output .entry))) ⌝ }
+    requires { ⌜ (start ≤ end) × (end ≤ length (now input)) × (used ≤ length (now output)) × (replyCapacity ≤ length (now output)) ⌝ }
+    ensures { λ r. ⌜ (r .held ≤ longestLine) × (r .used ≤ length (now (output .entry))) ⌝ }
 {
     let length = end - start;
     if LONGEST < length {
@@ -119,8 +119,8 @@ fn reply_between(
     output: &mut [u8],
     used: usize,
 ) -> State
-    requires { ⌜ (start ≤ end) × (end ≤ length (now input)) × (used ≤ length (now output)) × (capacity ≤ length (now output)) ⌝ }
-    ensures { λ r. ⌜ (r .held ≤ longest) × (r .used ≤ length (now (output .entry))) ⌝ }
+    requires { ⌜ (start ≤ end) × (end ≤ length (now input)) × (used ≤ length (now output)) × (replyCapacity ≤ length (now output)) ⌝ }
+    ensures { λ r. ⌜ (r .held ≤ longestLine) × (r .used ≤ length (now (output .entry))) ⌝ }
 {
     let progress = reply_all(&input[0..end], start, output, used);
     keep(input, progress.start, end, output, progress.used)
@@ -128,8 +128,8 @@ fn reply_between(
 
 // Replies to the lines of the input's first octets, behind the rest of a line that is skipped.
 fn reply_to(input: &mut [u8], end: usize, output: &mut [u8], state: State) -> State
-    requires { ⌜ (end ≤ length (now input)) × (state .used ≤ length (now output)) × (capacity ≤ length (now output)) ⌝ }
-    ensures { λ r. ⌜ (r .held ≤ longest) × (r .used ≤ length (now (output .entry))) ⌝ }
+    requires { ⌜ (end ≤ length (now input)) × (state .used ≤ length (now output)) × (replyCapacity ≤ length (now output)) ⌝ }
+    ensures { λ r. ⌜ (r .held ≤ longestLine) × (r .used ≤ length (now (output .entry))) ⌝ }
 {
     if !state.skipping {
         return reply_between(input, 0, end, output, state.used);
@@ -153,8 +153,8 @@ struct Turn {
 
 // One read of the input.
 fn read_some(input: &mut [u8], output: &mut [u8], state: State) -> Turn
-    requires { ⌜ (state .held ≤ longest) × (longest < length (now input)) × (state .used ≤ length (now output)) × (capacity ≤ length (now output)) ⌝ }
-    ensures { λ r. ⌜ (r .state .held ≤ longest) × (r .state .used ≤ length (now (output .entry))) ⌝ }
+    requires { ⌜ (state .held ≤ longestLine) × (longestLine < length (now input)) × (state .used ≤ length (now output)) × (replyCapacity ≤ length (now output)) ⌝ }
+    ensures { λ r. ⌜ (r .state .held ≤ longestLine) × (r .state .used ≤ length (now (output .entry))) ⌝ }
 {
     let held = state.held;
     let got = libc::read(STDIN_FILENO, &mut input[held..]);
@@ -172,8 +172,8 @@ fn read_some(input: &mut [u8], output: &mut [u8], state: State) -> Turn
 // A proved loop has to end, and nothing says that the input does: the loop counts its turns down, from a
 // number that no run uses up.
 fn read_all(input: &mut [u8], output: &mut [u8]) -> State
-    requires { ⌜ (longest < length (now input)) × (capacity ≤ length (now output)) ⌝ }
-    ensures { λ r. ⌜ (r .held ≤ longest) × (r .used ≤ length (now (output .entry))) ⌝ }
+    requires { ⌜ (longestLine < length (now input)) × (replyCapacity ≤ length (now output)) ⌝ }
+    ensures { λ r. ⌜ (r .held ≤ longestLine) × (r .used ≤ length (now (output .entry))) ⌝ }
 {
     let mut state = State {
         held: 0,
@@ -194,7 +194,7 @@ fn read_all(input: &mut [u8], output: &mut [u8]) -> State
 
 // The input has ended, with a line that lacks its newline where octets are held.
 fn finish(input: &[u8], output: &mut [u8], state: State)
-    requires { ⌜ (state .held ≤ length (now input)) × (state .used ≤ length (now output)) × (capacity ≤ length (now output)) ⌝ }
+    requires { ⌜ (state .held ≤ length (now input)) × (state .used ≤ length (now output)) × (replyCapacity ≤ length (now output)) ⌝ }
 {
     let held = state.held;
     let used = state.used;

@@ -23,7 +23,7 @@ StandsFor Name.TimeOfDay contents text = (digitsOnly 6 contents ≡ true) × (te
 StandsFor Name.DateTime contents text = (digitsOnly 14 contents ≡ true) × (text ≡ dated (take 8 contents) ++ letterT ∷ timed (drop 8 contents))
 
 -- That octets begin with an element whose contents stand for a text of the value, in some spelling, at the form; and what is left.
-pub record Readable (name : Name) (form : Form) (value : Value) (octets rest : List ℕ) : Type 0 where
+pub record ReadableElement (name : Name) (form : Form) (value : Value) (octets rest : List ℕ) : Type 0 where
   pub contents : List ℕ
   pub spelling : Spelling
   pub short : length contents ≤ 127

@@ -10,7 +10,7 @@ use Rattle.texts.specs.Texts.{readOf}
 use Rattle.texts.specs.declared.forms.Form.{Form}
 use Rattle.texts.specs.declared.values.Value.{Value}
 use Rattle.types.specs.declared.types.Name.{Name}
-use Rattle.kinds.specs.Kinds.{Option, none}
+use mathlib.Core.Option.{Option, none}
 use Rattle.encodings.specs.Encodings.{ofText}
 use Rattle.der.specs.Elements.{tagOf}
 

@@ -4,7 +4,7 @@ ghost use mathlib.Core.List.{[], _∷_};
 ghost use Prim.Native.Nat.{_+_, _≤_};
 ghost use lib.ListN.{length};
 ghost use Rattle.answers.specs.Outcomes.{done, outcomeOf, roomOf};
-ghost use Rattle.printing.specs.Stores.{Put};
+ghost use Rattle.printing.specs.Stores.{StoredText};
 ghost use Rattle.types.specs.declared.types.Name.{Name};
 ghost use Rattle.values.specs.Existence.{existsValue};
 ghost use Rattle.der.specs.Der.{noBits, derEncoded};
@@ -74,7 +74,7 @@ fn count_contents(name: Name, text: &[u8]) -> usize
 // Puts an octet of the text at a place, unless the contents are without it.
 fn put_octet(room: &mut [u8], at: usize, name: Name, octet: u8) -> usize
     requires { ⌜ at + length (contentsOf name (octet ∷ [])) ≤ length (now room) ⌝ }
-    ensures { λ r. ⌜ Put (now (room .entry)) (now (room .exit)) at (contentsOf name (octet ∷ [])) r ⌝ }
+    ensures { λ r. ⌜ StoredText (now (room .entry)) (now (room .exit)) at (contentsOf name (octet ∷ [])) r ⌝ }
 {
     if omits(name, octet) {
         return at;
@@ -86,7 +86,7 @@ fn put_octet(room: &mut [u8], at: usize, name: Name, octet: u8) -> usize
 // Puts the contents of a text from a place on.
 pub(crate) fn put_contents(room: &mut [u8], at: usize, name: Name, text: &[u8]) -> usize
     requires { ⌜ at + length (contentsOf name (now text)) ≤ length (now room) ⌝ }
-    ensures { λ r. ⌜ Put (now (room .entry)) (now (room .exit)) at (contentsOf name (now (text .entry))) r ⌝ }
+    ensures { λ r. ⌜ StoredText (now (room .entry)) (now (room .exit)) at (contentsOf name (now (text .entry))) r ⌝ }
 {
     let mut place = at;
     let mut i = 0;
@@ -100,7 +100,7 @@ pub(crate) fn put_contents(room: &mut [u8], at: usize, name: Name, text: &[u8]) 
 // Puts a tag of two octets at the front.
 fn put_long_tag(room: &mut [u8], number: u8) -> usize
     requires { ⌜ 2 ≤ length (now room) ⌝ }
-    ensures { λ r. ⌜ Put (now (room .entry)) (now (room .exit)) 0 (31 ∷ number ∷ []) r ⌝ }
+    ensures { λ r. ⌜ StoredText (now (room .entry)) (now (room .exit)) 0 (31 ∷ number ∷ []) r ⌝ }
 {
     room[0] = 0x1F;
     room[1] = number;
@@ -110,7 +110,7 @@ fn put_long_tag(room: &mut [u8], number: u8) -> usize
 // Puts the tag at the front.
 fn put_tag(room: &mut [u8], name: Name) -> usize
     requires { ⌜ 2 ≤ length (now room) ⌝ }
-    ensures { λ r. ⌜ Put (now (room .entry)) (now (room .exit)) 0 (tagOf name) r ⌝ }
+    ensures { λ r. ⌜ StoredText (now (room .entry)) (now (room .exit)) 0 (tagOf name) r ⌝ }
 {
     match name {
         Name::Listed => {
@@ -138,7 +138,7 @@ pub(crate) fn tag_length(name: Name) -> usize
 // Puts the element of a text at the front: the tag, the length, and so many octets of contents.
 fn put_element(room: &mut [u8], name: Name, count: u8, text: &[u8]) -> usize
     requires { ⌜ (count ≡ length (contentsOf name (now text))) × (length (element name (contentsOf name (now text))) ≤ length (now room)) ⌝ }
-    ensures { λ r. ⌜ Put (now (room .entry)) (now (room .exit)) 0 (element name (contentsOf name (now (text .entry)))) r ⌝ }
+    ensures { λ r. ⌜ StoredText (now (room .entry)) (now (room .exit)) 0 (element name (contentsOf name (now (text .entry)))) r ⌝ }
 {
     let at = put_tag(room, name);
     room[at] = count;

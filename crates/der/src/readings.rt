@@ -3,9 +3,9 @@ ghost use mathlib.Core.Path.{_≡_};
 ghost use mathlib.Core.Bool.{true, cond};
 ghost use Prim.Native.Nat.{_+_, _≤_};
 ghost use lib.ListN.{length, take};
-ghost use Rattle.kinds.specs.Kinds.{none};
+ghost use mathlib.Core.Option.{none};
 ghost use Rattle.lists.specs.Octets.{eqList};
-ghost use Rattle.printing.specs.Stores.{Put};
+ghost use Rattle.printing.specs.Stores.{StoredText};
 ghost use Rattle.texts.specs.Texts.{readOf};
 ghost use Rattle.types.specs.declared.types.Name.{Name};
 ghost use Rattle.encodings.specs.Encodings.{ofText};
@@ -49,7 +49,7 @@ fn digits_only(count: usize, octets: &[u8]) -> bool
 // Puts octets from a place on. Under a settings list nothing is left out of them.
 fn put_all(room: &mut [u8], at: usize, octets: &[u8]) -> usize
     requires { ⌜ at + length (now octets) ≤ length (now room) ⌝ }
-    ensures { λ r. ⌜ Put (now (room .entry)) (now (room .exit)) at (now (octets .entry)) r ⌝ }
+    ensures { λ r. ⌜ StoredText (now (room .entry)) (now (room .exit)) at (now (octets .entry)) r ⌝ }
 {
     put_contents(room, at, Name::Listed, octets)
 }
@@ -58,7 +58,7 @@ fn put_all(room: &mut [u8], at: usize, octets: &[u8]) -> usize
 // second, the rest for the third.
 fn put_fields(room: &mut [u8], at: usize, separator: u8, width: usize, digits: &[u8]) -> usize
     requires { ⌜ (width + 2 ≤ length (now digits)) × (at + (length (now digits) + 2) ≤ length (now room)) ⌝ }
-    ensures { λ r. ⌜ Put (now (room .entry)) (now (room .exit)) at (separated separator width (now (digits .entry))) r ⌝ }
+    ensures { λ r. ⌜ StoredText (now (room .entry)) (now (room .exit)) at (separated separator width (now (digits .entry))) r ⌝ }
 {
     let first = put_all(room, at, &digits[..width]);
     room[first] = separator;

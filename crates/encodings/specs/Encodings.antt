@@ -10,7 +10,8 @@ use Rattle.types.specs.Types.{formOf, wellFormed}
 use Rattle.types.specs.declared.types.«Type».{«Type» as Ty}
 use Rattle.values.specs.Existence.{existsValue}
 use Rattle.values.specs.Holding.{inType}
-use Rattle.kinds.specs.Kinds.{Kind, Option, some, none}
+use mathlib.Core.Option.{Option, some, none}
+use Rattle.kinds.specs.Kinds.{Kind}
 
 -- What a text gives, however it is spelled.
 abbrev pub ofText : TextRead → Option Value

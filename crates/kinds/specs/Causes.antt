@@ -6,7 +6,8 @@ use mathlib.Core.Bool.{true, false}
 use mathlib.Core.List.{List}
 use Rattle.answers.specs.Outcomes.{Answer, done, refused}
 use Rattle.answers.specs.declared.refusals.Refusal.{Refusal}
-use Rattle.kinds.specs.Kinds.{Kind, some, none}
+use mathlib.Core.Option.{some, none}
+use Rattle.kinds.specs.Kinds.{Kind}
 
 module _ {T F R A : Type 0} (K : Kind T F R A) where
   -- A type that settings can give, and a value that it holds.

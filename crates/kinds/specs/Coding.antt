@@ -5,7 +5,8 @@ use mathlib.Core.List.{List}
 use Rattle.answers.specs.Outcomes.{Answer, done, refused}
 use Rattle.answers.specs.declared.refusals.Refusal.{Refusal}
 use Rattle.lists.specs.Octets.{eqList}
-use Rattle.kinds.specs.Kinds.{Kind, Option, some, none}
+use mathlib.Core.Option.{Option, some, none}
+use Rattle.kinds.specs.Kinds.{Kind}
 
 module _ {T F R A : Type 0} (K : Kind T F R A) where
   -- 4: "no such date, time or difference"; 5: "exists, but not in the type"; else the answer.

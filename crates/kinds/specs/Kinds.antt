@@ -2,12 +2,8 @@
 use Prim.Native.Nat.{ℕ}
 use mathlib.Core.Bool.{Bool}
 use mathlib.Core.List.{List}
+use mathlib.Core.Option.{Option}
 use Rattle.answers.specs.declared.counts.Bits.{Bits}
-
--- What a reader gives: a value, or nothing.
-pub data Option (A : Type 0) : Type 0 where
-  some : A → Option A
-  none : Option A
 
 -- Types T have forms F and rows R; a type's values are among A, its texts are of its form, and they are encoded by its row.
 pub record Kind (T F R A : Type 0) : Type 0 where

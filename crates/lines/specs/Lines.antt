@@ -10,13 +10,13 @@ use Rattle.answers.specs.Outcomes.{Answer, done, refused}
 use Rattle.answers.specs.Refusals.{numberOf}
 use Rattle.lists.specs.Lists.{spanTo}
 use Rattle.lists.specs.Octets.{bytes, eqList}
-use Rattle.kinds.specs.Kinds.{Option, some, none}
+use mathlib.Core.Option.{Option, some, none}
 use Rattle.types.specs.Types.{noLimits}
 use Rattle.codec.specs.Coding.{perEncode, perDecode, derEncode, derDecode}
 
 -- "more than 1,024 octets prints `?`": a line without its newline.
-abbrev pub longest : ℕ
-longest = 1024
+abbrev pub longestLine : ℕ
+longestLine = 1024
 
 -- A hex digit, in capitals.
 unfoldable pub hexDigit : ℕ → ℕ
@@ -79,5 +79,5 @@ cutAgain work rest =
 -- The reply to a line, with its newline.
 unfoldable pub replyOf : List ℕ → List ℕ
 replyOf line =
-    cond (leb (length line) longest && ltb (spanTo 59 line) (length line))
+    cond (leb (length line) longestLine && ltb (spanTo 59 line) (length line))
     (cutAgain (take (spanTo 59 line) line) (drop (spanTo 59 line + 1) line)) unasked

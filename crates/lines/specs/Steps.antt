@@ -4,7 +4,7 @@ use mathlib.Core.Bool.{cond}
 use mathlib.Core.List.{List, _∷_, _++_}
 use lib.Dec.{eqb}
 use lib.ListN.{take}
-use Rattle.kinds.specs.Kinds.{Option, some, none}
+use mathlib.Core.Option.{Option, some, none}
 use Rattle.lists.specs.Octets.{bytes}
 use Rattle.lines.specs.declared.hex.Hex.{Hex}
 

@@ -1,7 +1,7 @@
 ghost use mathlib.Core.Path.{_≡_};
 ghost use Prim.Native.Nat.{_+_, _*_, _<_, _≤_};
 ghost use lib.ListN.{length};
-ghost use Rattle.printing.specs.Stores.{Put};
+ghost use Rattle.printing.specs.Stores.{StoredText};
 ghost use Rattle.lines.specs.Lines.{fromHex, hexDigit, hexNumber, toHex};
 ghost use Rattle.lines.specs.Steps.{countIn, octetsIn};
 
@@ -25,7 +25,7 @@ fn hex_digit(number: u8) -> u8
 // Stores octets in hex from a place of the room on, and answers the place after them.
 pub(crate) fn put_hex(room: &mut [u8], at: usize, octets: &[u8]) -> usize
     requires { ⌜ at + 2 * length (now octets) ≤ length (now room) ⌝ }
-    ensures { λ r. ⌜ Put (now (room .entry)) (now (room .exit)) at (toHex (now (octets .entry))) r ⌝ }
+    ensures { λ r. ⌜ StoredText (now (room .entry)) (now (room .exit)) at (toHex (now (octets .entry))) r ⌝ }
     ensures { λ r. ⌜ r ≡ at + 2 * length (now (octets .entry)) ⌝ }
 {
     let mut place = at;

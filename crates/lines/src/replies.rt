@@ -4,12 +4,12 @@ ghost use mathlib.Core.List.{_∷_};
 ghost use Prim.Native.Nat.{_+_, _<_, _≤_};
 ghost use lib.ListN.{length};
 ghost use Rattle.lists.specs.Octets.{bytes};
-ghost use Rattle.printing.specs.Canonical.{capacity as textCapacity};
-ghost use Rattle.printing.specs.Stores.{Put};
+ghost use Rattle.printing.specs.Canonical.{textCapacity};
+ghost use Rattle.printing.specs.Stores.{StoredText};
 ghost use Rattle.types.specs.Types.{noLimits};
 ghost use Rattle.codec.specs.Coding.{perEncode, perDecode, derEncode, derDecode};
-ghost use Rattle.lines.specs.Lines.{asText, cutAgain, fromHex, longest, ofOctets, shown, toHex, unasked, worked};
-ghost use Rattle.lines.specs.Rooms.{capacity, replyLength, roomWith};
+ghost use Rattle.lines.specs.Lines.{asText, cutAgain, fromHex, longestLine, ofOctets, shown, toHex, unasked, worked};
+ghost use Rattle.lines.specs.Rooms.{replyCapacity, replyLength, roomWith};
 ghost use Rattle.lines.specs.Steps.{replyTo};
 use crate::hex::Hex;
 use crate::hex::put_hex;
@@ -23,10 +23,10 @@ use lists::words::same;
 use types::Limits;
 use values::TEXT_CAPACITY;
 
-// How many octets a room for replies has: the longest reply, and slack.
+// How many octets a room for replies has: the longestLine reply, and slack.
 pub const REPLY_CAPACITY: usize = 288;
 
-// The longest line that asks anything, without its newline.
+// The longestLine line that asks anything, without its newline.
 pub const LONGEST: usize = 1024;
 
 // As many octets as the hex of a line can give.
@@ -34,9 +34,9 @@ const HEX_CAPACITY: usize = 512;
 
 // `?`: the line asks nothing.
 fn unasked_reply(room: &mut [u8]) -> usize
-    requires { ⌜ capacity ≤ length (now room) ⌝ }
-    ensures { λ r. ⌜ Put (now (room .entry)) (now (room .exit)) 0 unasked r ⌝ }
-    ensures { λ r. ⌜ r ≤ capacity ⌝ }
+    requires { ⌜ replyCapacity ≤ length (now room) ⌝ }
+    ensures { λ r. ⌜ StoredText (now (room .entry)) (now (room .exit)) 0 unasked r ⌝ }
+    ensures { λ r. ⌜ r ≤ replyCapacity ⌝ }
 {
     room[0] = b'?';
     room[1] = b'\n';
@@ -45,9 +45,9 @@ fn unasked_reply(room: &mut [u8]) -> usize
 
 // The number of a refusal.
 fn number_reply(number: u32, room: &mut [u8]) -> usize
-    requires { ⌜ (number ≤ 7) × (capacity ≤ length (now room)) ⌝ }
-    ensures { λ r. ⌜ Put (now (room .entry)) (now (room .exit)) 0 ((48 + number) ∷ bytes "\n") r ⌝ }
-    ensures { λ r. ⌜ r ≤ capacity ⌝ }
+    requires { ⌜ (number ≤ 7) × (replyCapacity ≤ length (now room)) ⌝ }
+    ensures { λ r. ⌜ StoredText (now (room .entry)) (now (room .exit)) 0 ((48 + number) ∷ bytes "\n") r ⌝ }
+    ensures { λ r. ⌜ r ≤ replyCapacity ⌝ }
 {
     room[0] = b'0' + number as u8;
     room[1] = b'\n';
@@ -57,7 +57,7 @@ fn number_reply(number: u32, room: &mut [u8]) -> usize
 // Stores octets from a place of the room on, and answers the place after them.
 fn put_octets(room: &mut [u8], at: usize, octets: &[u8]) -> usize
     requires { ⌜ at + length (now octets) ≤ length (now room) ⌝ }
-    ensures { λ r. ⌜ Put (now (room .entry)) (now (room .exit)) at (now (octets .entry)) r ⌝ }
+    ensures { λ r. ⌜ StoredText (now (room .entry)) (now (room .exit)) at (now (octets .entry)) r ⌝ }
     ensures { λ r. ⌜ r ≡ at + length (now (octets .entry)) ⌝ }
 {
     let mut place = at;
@@ -72,9 +72,9 @@ fn put_octets(room: &mut [u8], at: usize, octets: &[u8]) -> usize
 
 // The reply to a number, and after 0 to so many octets of the buffer, in hex.
 fn hex_reply(number: u32, count: usize, buffer: &[u8], room: &mut [u8]) -> usize
-    requires { ⌜ (number ≤ 7) × (count ≤ textCapacity) × (length (now buffer) ≡ textCapacity) × (capacity ≤ length (now room)) ⌝ }
-    ensures { λ r. ⌜ Put (now (room .entry)) (now (room .exit)) 0 (replyTo toHex number count (now (buffer .entry))) r ⌝ }
-    ensures { λ r. ⌜ r ≤ capacity ⌝ }
+    requires { ⌜ (number ≤ 7) × (count ≤ textCapacity) × (length (now buffer) ≡ textCapacity) × (replyCapacity ≤ length (now room)) ⌝ }
+    ensures { λ r. ⌜ StoredText (now (room .entry)) (now (room .exit)) 0 (replyTo toHex number count (now (buffer .entry))) r ⌝ }
+    ensures { λ r. ⌜ r ≤ replyCapacity ⌝ }
 {
     if number != 0 {
         return number_reply(number, room);
@@ -86,9 +86,9 @@ fn hex_reply(number: u32, count: usize, buffer: &[u8], room: &mut [u8]) -> usize
 
 // The reply to a number, and after 0 to the text of so many octets of the buffer.
 fn text_reply(number: u32, count: usize, buffer: &[u8], room: &mut [u8]) -> usize
-    requires { ⌜ (number ≤ 7) × (count ≤ textCapacity) × (length (now buffer) ≡ textCapacity) × (capacity ≤ length (now room)) ⌝ }
-    ensures { λ r. ⌜ Put (now (room .entry)) (now (room .exit)) 0 (replyTo asText number count (now (buffer .entry))) r ⌝ }
-    ensures { λ r. ⌜ r ≤ capacity ⌝ }
+    requires { ⌜ (number ≤ 7) × (count ≤ textCapacity) × (length (now buffer) ≡ textCapacity) × (replyCapacity ≤ length (now room)) ⌝ }
+    ensures { λ r. ⌜ StoredText (now (room .entry)) (now (room .exit)) 0 (replyTo asText number count (now (buffer .entry))) r ⌝ }
+    ensures { λ r. ⌜ r ≤ replyCapacity ⌝ }
 {
     if number != 0 {
         return number_reply(number, room);
@@ -100,9 +100,9 @@ fn text_reply(number: u32, count: usize, buffer: &[u8], room: &mut [u8]) -> usiz
 
 // The reply to `per`.
 fn per_reply(settings: &[u8], text: &[u8], room: &mut [u8]) -> usize
-    requires { ⌜ capacity ≤ length (now room) ⌝ }
-    ensures { λ r. ⌜ Put (now (room .entry)) (now (room .exit)) 0 (shown toHex (perEncode (now (settings .entry)) noLimits (now (text .entry)))) r ⌝ }
-    ensures { λ r. ⌜ r ≤ capacity ⌝ }
+    requires { ⌜ replyCapacity ≤ length (now room) ⌝ }
+    ensures { λ r. ⌜ StoredText (now (room .entry)) (now (room .exit)) 0 (shown toHex (perEncode (now (settings .entry)) noLimits (now (text .entry)))) r ⌝ }
+    ensures { λ r. ⌜ r ≤ replyCapacity ⌝ }
 {
     let mut buffer = [0u8; TEXT_CAPACITY];
     let outcome = per_encode(settings, Limits::NONE, text, &mut buffer);
@@ -111,9 +111,9 @@ fn per_reply(settings: &[u8], text: &[u8], room: &mut [u8]) -> usize
 
 // The reply to `der`.
 fn der_reply(settings: &[u8], text: &[u8], room: &mut [u8]) -> usize
-    requires { ⌜ capacity ≤ length (now room) ⌝ }
-    ensures { λ r. ⌜ Put (now (room .entry)) (now (room .exit)) 0 (shown toHex (derEncode (now (settings .entry)) noLimits (now (text .entry)))) r ⌝ }
-    ensures { λ r. ⌜ r ≤ capacity ⌝ }
+    requires { ⌜ replyCapacity ≤ length (now room) ⌝ }
+    ensures { λ r. ⌜ StoredText (now (room .entry)) (now (room .exit)) 0 (shown toHex (derEncode (now (settings .entry)) noLimits (now (text .entry)))) r ⌝ }
+    ensures { λ r. ⌜ r ≤ replyCapacity ⌝ }
 {
     let mut buffer = [0u8; TEXT_CAPACITY];
     let outcome = der_encode(settings, Limits::NONE, text, &mut buffer);
@@ -122,9 +122,9 @@ fn der_reply(settings: &[u8], text: &[u8], room: &mut [u8]) -> usize
 
 // The reply to octets in unaligned PER.
 fn octets_reply(settings: &[u8], octets: &[u8], room: &mut [u8]) -> usize
-    requires { ⌜ capacity ≤ length (now room) ⌝ }
-    ensures { λ r. ⌜ Put (now (room .entry)) (now (room .exit)) 0 (shown asText (perDecode (now (settings .entry)) noLimits (now (octets .entry)))) r ⌝ }
-    ensures { λ r. ⌜ r ≤ capacity ⌝ }
+    requires { ⌜ replyCapacity ≤ length (now room) ⌝ }
+    ensures { λ r. ⌜ StoredText (now (room .entry)) (now (room .exit)) 0 (shown asText (perDecode (now (settings .entry)) noLimits (now (octets .entry)))) r ⌝ }
+    ensures { λ r. ⌜ r ≤ replyCapacity ⌝ }
 {
     let mut buffer = [0u8; TEXT_CAPACITY];
     let outcome = per_decode(settings, Limits::NONE, octets, &mut buffer);
@@ -133,9 +133,9 @@ fn octets_reply(settings: &[u8], octets: &[u8], room: &mut [u8]) -> usize
 
 // The reply to octets in DER.
 fn element_reply(settings: &[u8], octets: &[u8], room: &mut [u8]) -> usize
-    requires { ⌜ capacity ≤ length (now room) ⌝ }
-    ensures { λ r. ⌜ Put (now (room .entry)) (now (room .exit)) 0 (shown asText (derDecode (now (settings .entry)) noLimits (now (octets .entry)))) r ⌝ }
-    ensures { λ r. ⌜ r ≤ capacity ⌝ }
+    requires { ⌜ replyCapacity ≤ length (now room) ⌝ }
+    ensures { λ r. ⌜ StoredText (now (room .entry)) (now (room .exit)) 0 (shown asText (derDecode (now (settings .entry)) noLimits (now (octets .entry)))) r ⌝ }
+    ensures { λ r. ⌜ r ≤ replyCapacity ⌝ }
 {
     let mut buffer = [0u8; TEXT_CAPACITY];
     let outcome = der_decode(settings, Limits::NONE, octets, &mut buffer);
@@ -144,9 +144,9 @@ fn element_reply(settings: &[u8], octets: &[u8], room: &mut [u8]) -> usize
 
 // The reply to `unper`.
 fn unper_reply(settings: &[u8], hex: &[u8], room: &mut [u8]) -> usize
-    requires { ⌜ (length (now hex) ≤ longest) × (capacity ≤ length (now room)) ⌝ }
-    ensures { λ r. ⌜ Put (now (room .entry)) (now (room .exit)) 0 (ofOctets (λ octets. shown asText (perDecode (now (settings .entry)) noLimits octets)) (fromHex (now (hex .entry)))) r ⌝ }
-    ensures { λ r. ⌜ r ≤ capacity ⌝ }
+    requires { ⌜ (length (now hex) ≤ longestLine) × (replyCapacity ≤ length (now room)) ⌝ }
+    ensures { λ r. ⌜ StoredText (now (room .entry)) (now (room .exit)) 0 (ofOctets (λ octets. shown asText (perDecode (now (settings .entry)) noLimits octets)) (fromHex (now (hex .entry)))) r ⌝ }
+    ensures { λ r. ⌜ r ≤ replyCapacity ⌝ }
 {
     let mut buffer = [0u8; HEX_CAPACITY];
     let Hex::Length(n) = read_hex(hex, &mut buffer) else {
@@ -157,9 +157,9 @@ fn unper_reply(settings: &[u8], hex: &[u8], room: &mut [u8]) -> usize
 
 // The reply to `under`.
 fn under_reply(settings: &[u8], hex: &[u8], room: &mut [u8]) -> usize
-    requires { ⌜ (length (now hex) ≤ longest) × (capacity ≤ length (now room)) ⌝ }
-    ensures { λ r. ⌜ Put (now (room .entry)) (now (room .exit)) 0 (ofOctets (λ octets. shown asText (derDecode (now (settings .entry)) noLimits octets)) (fromHex (now (hex .entry)))) r ⌝ }
-    ensures { λ r. ⌜ r ≤ capacity ⌝ }
+    requires { ⌜ (length (now hex) ≤ longestLine) × (replyCapacity ≤ length (now room)) ⌝ }
+    ensures { λ r. ⌜ StoredText (now (room .entry)) (now (room .exit)) 0 (ofOctets (λ octets. shown asText (derDecode (now (settings .entry)) noLimits octets)) (fromHex (now (hex .entry)))) r ⌝ }
+    ensures { λ r. ⌜ r ≤ replyCapacity ⌝ }
 {
     let mut buffer = [0u8; HEX_CAPACITY];
     let Hex::Length(n) = read_hex(hex, &mut buffer) else {
@@ -170,9 +170,9 @@ fn under_reply(settings: &[u8], hex: &[u8], room: &mut [u8]) -> usize
 
 // The reply to a work, a type's text and an input.
 fn work_reply(work: &[u8], settings: &[u8], input: &[u8], room: &mut [u8]) -> usize
-    requires { ⌜ (length (now input) ≤ longest) × (capacity ≤ length (now room)) ⌝ }
-    ensures { λ r. ⌜ Put (now (room .entry)) (now (room .exit)) 0 (worked (now (work .entry)) (now (settings .entry)) (now (input .entry))) r ⌝ }
-    ensures { λ r. ⌜ r ≤ capacity ⌝ }
+    requires { ⌜ (length (now input) ≤ longestLine) × (replyCapacity ≤ length (now room)) ⌝ }
+    ensures { λ r. ⌜ StoredText (now (room .entry)) (now (room .exit)) 0 (worked (now (work .entry)) (now (settings .entry)) (now (input .entry))) r ⌝ }
+    ensures { λ r. ⌜ r ≤ replyCapacity ⌝ }
 {
     if same(work, b"per") {
         return per_reply(settings, input, room);
@@ -191,9 +191,9 @@ fn work_reply(work: &[u8], settings: &[u8], input: &[u8], room: &mut [u8]) -> us
 
 // The reply to a work and what follows the first semicolon.
 fn rest_reply(work: &[u8], rest: &[u8], room: &mut [u8]) -> usize
-    requires { ⌜ (length (now rest) ≤ longest) × (capacity ≤ length (now room)) ⌝ }
-    ensures { λ r. ⌜ Put (now (room .entry)) (now (room .exit)) 0 (cutAgain (now (work .entry)) (now (rest .entry))) r ⌝ }
-    ensures { λ r. ⌜ r ≤ capacity ⌝ }
+    requires { ⌜ (length (now rest) ≤ longestLine) × (replyCapacity ≤ length (now room)) ⌝ }
+    ensures { λ r. ⌜ StoredText (now (room .entry)) (now (room .exit)) 0 (cutAgain (now (work .entry)) (now (rest .entry))) r ⌝ }
+    ensures { λ r. ⌜ r ≤ replyCapacity ⌝ }
 {
     let second = find(rest, 0, b';');
     if rest.len() <= second {

@@ -31,16 +31,16 @@ settings ns = record { readable = true; numbers = ns }
 abbrev pub noneYet : List ℕ
 noneYet = 0 ∷ 0 ∷ 0 ∷ 0 ∷ 0 ∷ []
 
--- Any list that is refused.
-abbrev pub refused : Settings
-refused = record { readable = false; numbers = noneYet }
+-- Any list that is refusedList.
+abbrev pub refusedList : Settings
+refusedList = record { readable = false; numbers = noneYet }
 
--- "each property at most once": one pair more, refused where it is no setting, or where its property has one already.
+-- "each property at most once": one pair more, refusedList where it is no setting, or where its property has one already.
 unfoldable pub addPair : Settings → Pair → Settings
 addPair s p =
     cond (s .readable && (ltb 0 (p .setting) && eqb (getD (s .numbers) (p .property) 0) 0))
     (settings (set (s .numbers) (p .property) (p .setting)))
-    refused
+    refusedList
 
 -- All the pairs that these texts are.
 unfoldable pub addPairs : Settings → List (List ℕ) → Settings
@@ -89,9 +89,9 @@ complete s =
     && presentIf (timedList s) (timeIn s)
     && presentIf (timedList s) (zoneIn s)
 
--- A list with something missing, or out of place, is refused.
+-- A list with something missing, or out of place, is refusedList.
 unfoldable pub completed : Settings → Settings
-completed s = cond (complete s) s refused
+completed s = cond (complete s) s refusedList
 
 -- The list that a text is.
 unfoldable pub listOf : List ℕ → Settings

@@ -53,8 +53,8 @@ fractionNumber l =
     0
 
 -- The first number that is not 0.
-abbrev pub orElse : ℕ → ℕ → ℕ
-orElse m n = cond (eqb m 0) n m
+abbrev pub firstNumber : ℕ → ℕ → ℕ
+firstNumber m n = cond (eqb m 0) n m
 
 -- "`Property=Setting`": the property, 0 to 4 in the order of "Base settings", and the number of its setting, 0 where the text is none.
 abbrev pub pair : ℕ → ℕ → Pair
@@ -70,5 +70,5 @@ pairOf l =
     firstOf (pair 0 (placeIn basicWords l))
     (firstOf (pair 1 (placeIn dateWords l))
     (firstOf (pair 2 (placeIn yearWords l))
-    (firstOf (pair 3 (orElse (placeIn clockWords l) (fractionNumber l)))
+    (firstOf (pair 3 (firstNumber (placeIn clockWords l) (fractionNumber l)))
     (pair 4 (placeIn zoneWords l)))))

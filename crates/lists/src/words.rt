@@ -1,6 +1,6 @@
 ghost use mathlib.Core.Path.{_≡_};
 ghost use Rattle.lists.specs.Octets.{eqList};
-ghost use Rattle.lists.specs.Words.{basicWords, clockWords, dateWords, fractionNumber, fractionWords, orElse, pairOf, placeIn, yearWords, zoneWords};
+ghost use Rattle.lists.specs.Words.{basicWords, clockWords, dateWords, fractionNumber, fractionWords, firstNumber, pairOf, placeIn, yearWords, zoneWords};
 
 // The places of the properties.
 pub const BASIC: usize = 0;
@@ -169,7 +169,7 @@ fn fraction(s: &[u8]) -> u32
 
 // The number of a Time setting, or 0 for any other text.
 fn time_word(s: &[u8]) -> u32
-    ensures { λ r. ⌜ r ≡ orElse (placeIn clockWords (now (s .entry))) (fractionNumber (now (s .entry))) ⌝ }
+    ensures { λ r. ⌜ r ≡ firstNumber (placeIn clockWords (now (s .entry))) (fractionNumber (now (s .entry))) ⌝ }
 {
     let clock = clock_word(s);
     if clock != 0 {

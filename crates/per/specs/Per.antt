@@ -10,10 +10,11 @@ use Rattle.types.specs.declared.types.«Type».{«Type» as Ty}
 use Rattle.fields.specs.Bits.{octetsOf}
 use Rattle.fields.specs.Fields.{layout, bitCount}
 use Rattle.fields.specs.Readings.{Found, found, nothing}
-use Rattle.rows.specs.Fields.{rowOf, fieldsOf}
+use Rattle.rows.specs.Fields.{yearRowOf, fieldsOf}
 use Rattle.rows.specs.Readings.{readOctets}
 use Rattle.rows.specs.declared.YearRow.{YearRow}
-use Rattle.kinds.specs.Kinds.{Kind, Option, some, none}
+use mathlib.Core.Option.{Option, some, none}
+use Rattle.kinds.specs.Kinds.{Kind}
 use Rattle.kinds.specs.Coding.{encoded, decoded}
 use Rattle.encodings.specs.Encodings.{encodedBy}
 
@@ -31,7 +32,7 @@ countOf row v = record { count = bitCount (fieldsOf row v) }
 
 -- Dates and times in unaligned PER.
 abbrev pub per : Kind Ty Form YearRow Value
-per = encodedBy rowOf encodingOf countOf λ row form octets. ofBits (readOctets row form octets)
+per = encodedBy yearRowOf encodingOf countOf λ row form octets. ofBits (readOctets row form octets)
 
 -- What encoding a text answers, ..
 abbrev pub perEncoded : Ty → List ℕ → Answer

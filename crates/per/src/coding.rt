@@ -1,7 +1,7 @@
 ghost use mathlib.Core.Path.{_≡_};
 ghost use Rattle.answers.specs.Outcomes.{done, outcomeOf, roomOf};
 ghost use Rattle.kinds.specs.Coding.{compared};
-ghost use Rattle.rows.specs.Fields.{rowOf, yearsRow};
+ghost use Rattle.rows.specs.Fields.{yearRowOf, yearsRow};
 ghost use Rattle.values.specs.Existence.{existsValue};
 ghost use mathlib.Core.Bool.{true};
 ghost use Rattle.per.specs.Per.{per as perKind, encodingOf, countOf, perEncoded, perDecoded};
@@ -35,7 +35,7 @@ fn years_row(years: Years) -> YearRow
 
 // How a type's row has its years.
 fn row_of(t: Type) -> YearRow
-    ensures { λ r. ⌜ r ≡ rowOf t ⌝ }
+    ensures { λ r. ⌜ r ≡ yearRowOf t ⌝ }
 {
     let parts = t.parts;
     match parts {

@@ -9,12 +9,12 @@ use Rattle.texts.specs.Forms.{valueForm, formDigits}
 use Rattle.texts.specs.Texts.{textOf}
 
 -- How many octets a buffer for texts has: the longest canonical text, and slack.
-abbrev pub capacity : ℕ
-capacity = 136
+abbrev pub textCapacity : ℕ
+textCapacity = 136
 
 -- Whether a value is printed. "n from 1 to 9": no value has more fraction digits.
 unfoldable pub printable : Value → List ℕ → Bool
-printable v b = leb (formDigits (valueForm v)) 9 && leb capacity (length b)
+printable v b = leb (formDigits (valueForm v)) 9 && leb textCapacity (length b)
 
 -- The length of the text that is printed, 0 where none is.
 unfoldable pub lengthIn : Value → List ℕ → ℕ

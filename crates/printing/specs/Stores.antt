@@ -6,6 +6,6 @@ use lib.Seq.{sets}
 use lib.ListN.{length}
 
 -- That m is l with the text t stored from place at on, and r is the place after it.
-pub record Put (l m : List ℕ) (at : ℕ) (t : List ℕ) (r : ℕ) : Type 0 where
+pub record StoredText (l m : List ℕ) (at : ℕ) (t : List ℕ) (r : ℕ) : Type 0 where
   pub text : m ≡ sets l at t
   pub end : r ≡ at + length t

@@ -12,7 +12,7 @@ ghost use Rattle.texts.specs.Forms.{valueForm, formDigits};
 ghost use Rattle.texts.specs.Dates.{putAfter, putDate};
 ghost use Rattle.texts.specs.Times.{putClock, fraction, putFraction, putMinutes, putZone, canonical, putTime};
 ghost use Rattle.texts.specs.Texts.{textOf};
-ghost use Rattle.printing.specs.Stores.{Put};
+ghost use Rattle.printing.specs.Stores.{StoredText};
 use calendar::Date;
 use calendar::Distance;
 use calendar::Year;
@@ -26,7 +26,7 @@ use texts::year_of;
 // The last w decimal digits of n.
 fn put_digits(b: &mut [u8], at: usize, w: usize, n: u64) -> usize
     requires { ⌜ at + w ≤ length (now b) ⌝ }
-    ensures { λ r. ⌜ Put (now (b .entry)) (now (b .exit)) at (putDigits w n) r ⌝ }
+    ensures { λ r. ⌜ StoredText (now (b .entry)) (now (b .exit)) at (putDigits w n) r ⌝ }
     ensures { λ r. ⌜ r ≡ at + w ⌝ }
 {
     let mut m = n;
@@ -42,7 +42,7 @@ fn put_digits(b: &mut [u8], at: usize, w: usize, n: u64) -> usize
 // The octet c, and then the last w decimal digits of n.
 fn put_field(b: &mut [u8], at: usize, c: u8, w: usize, n: u64) -> usize
     requires { ⌜ at + (w + 1) ≤ length (now b) ⌝ }
-    ensures { λ r. ⌜ Put (now (b .entry)) (now (b .exit)) at (c ∷ putDigits w n) r ⌝ }
+    ensures { λ r. ⌜ StoredText (now (b .entry)) (now (b .exit)) at (c ∷ putDigits w n) r ⌝ }
     ensures { λ r. ⌜ r ≡ at + (w + 1) ⌝ }
 {
     b[at] = c;
@@ -66,7 +66,7 @@ fn year_digits(n: u64) -> usize
 // A year.
 fn put_year(b: &mut [u8], at: usize, year: Year) -> usize
     requires { ⌜ at + 21 ≤ length (now b) ⌝ }
-    ensures { λ r. ⌜ Put (now (b .entry)) (now (b .exit)) at (putYear year) r ⌝ }
+    ensures { λ r. ⌜ StoredText (now (b .entry)) (now (b .exit)) at (putYear year) r ⌝ }
     ensures { λ r. ⌜ r ≤ at + 21 ⌝ }
 {
     let distance = year.distance();
@@ -88,7 +88,7 @@ fn put_year(b: &mut [u8], at: usize, year: Year) -> usize
 // `-W` and the two digits of a week.
 fn put_week(b: &mut [u8], at: usize, week: u32) -> usize
     requires { ⌜ at + 4 ≤ length (now b) ⌝ }
-    ensures { λ r. ⌜ Put (now (b .entry)) (now (b .exit)) at (hyphen ∷ (letterW ∷ putDigits 2 week)) r ⌝ }
+    ensures { λ r. ⌜ StoredText (now (b .entry)) (now (b .exit)) at (hyphen ∷ (letterW ∷ putDigits 2 week)) r ⌝ }
     ensures { λ r. ⌜ r ≡ at + 4 ⌝ }
 {
     b[at] = b'-';
@@ -98,7 +98,7 @@ fn put_week(b: &mut [u8], at: usize, week: u32) -> usize
 // What a date has after its year.
 fn put_after(b: &mut [u8], at: usize, date: Date) -> usize
     requires { ⌜ at + 6 ≤ length (now b) ⌝ }
-    ensures { λ r. ⌜ Put (now (b .entry)) (now (b .exit)) at (putAfter date) r ⌝ }
+    ensures { λ r. ⌜ StoredText (now (b .entry)) (now (b .exit)) at (putAfter date) r ⌝ }
     ensures { λ r. ⌜ r ≤ at + 6 ⌝ }
 {
     match date {
@@ -120,7 +120,7 @@ fn put_after(b: &mut [u8], at: usize, date: Date) -> usize
 // A date.
 fn put_date(b: &mut [u8], at: usize, date: Date) -> usize
     requires { ⌜ at + 27 ≤ length (now b) ⌝ }
-    ensures { λ r. ⌜ Put (now (b .entry)) (now (b .exit)) at (putDate date) r ⌝ }
+    ensures { λ r. ⌜ StoredText (now (b .entry)) (now (b .exit)) at (putDate date) r ⌝ }
     ensures { λ r. ⌜ r ≤ at + 27 ⌝ }
 {
     let p = put_year(b, at, year_of(date));
@@ -130,7 +130,7 @@ fn put_date(b: &mut [u8], at: usize, date: Date) -> usize
 // Hours, minutes and seconds.
 fn put_clock(b: &mut [u8], at: usize, clock: Clock) -> usize
     requires { ⌜ at + 8 ≤ length (now b) ⌝ }
-    ensures { λ r. ⌜ Put (now (b .entry)) (now (b .exit)) at (putClock clock) r ⌝ }
+    ensures { λ r. ⌜ StoredText (now (b .entry)) (now (b .exit)) at (putClock clock) r ⌝ }
     ensures { λ r. ⌜ r ≤ at + 8 ⌝ }
 {
     match clock {
@@ -150,7 +150,7 @@ fn put_clock(b: &mut [u8], at: usize, clock: Clock) -> usize
 // A full stop and the fraction's digits, nothing where there are none.
 fn put_fraction(b: &mut [u8], at: usize, digits: u32, number: u32) -> usize
     requires { ⌜ (digits ≤ 9) × (at + 10 ≤ length (now b)) ⌝ }
-    ensures { λ r. ⌜ Put (now (b .entry)) (now (b .exit)) at (putFraction digits (fraction false number)) r ⌝ }
+    ensures { λ r. ⌜ StoredText (now (b .entry)) (now (b .exit)) at (putFraction digits (fraction false number)) r ⌝ }
     ensures { λ r. ⌜ r ≤ at + 10 ⌝ }
 {
     if digits == 0 {
@@ -169,7 +169,7 @@ fn sign(behind: bool) -> u8
 // The minutes of a difference, nothing where they are 0.
 fn put_minutes(b: &mut [u8], at: usize, minutes: u32) -> usize
     requires { ⌜ at + 3 ≤ length (now b) ⌝ }
-    ensures { λ r. ⌜ Put (now (b .entry)) (now (b .exit)) at (putMinutes minutes false) r ⌝ }
+    ensures { λ r. ⌜ StoredText (now (b .entry)) (now (b .exit)) at (putMinutes minutes false) r ⌝ }
     ensures { λ r. ⌜ r ≤ at + 3 ⌝ }
 {
     if minutes == 0 {
@@ -181,7 +181,7 @@ fn put_minutes(b: &mut [u8], at: usize, minutes: u32) -> usize
 // A difference from UTC.
 fn put_difference(b: &mut [u8], at: usize, difference: Difference) -> usize
     requires { ⌜ at + 6 ≤ length (now b) ⌝ }
-    ensures { λ r. ⌜ Put (now (b .entry)) (now (b .exit)) at (putZone false (Zone.LD difference)) r ⌝ }
+    ensures { λ r. ⌜ StoredText (now (b .entry)) (now (b .exit)) at (putZone false (Zone.LD difference)) r ⌝ }
     ensures { λ r. ⌜ r ≤ at + 6 ⌝ }
 {
     let p = put_field(b, at, sign(difference.behind), 2, difference.hours as u64);
@@ -191,7 +191,7 @@ fn put_difference(b: &mut [u8], at: usize, difference: Difference) -> usize
 // Nothing, `Z`, or a difference.
 fn put_zone(b: &mut [u8], at: usize, zone: Zone) -> usize
     requires { ⌜ at + 6 ≤ length (now b) ⌝ }
-    ensures { λ r. ⌜ Put (now (b .entry)) (now (b .exit)) at (putZone false zone) r ⌝ }
+    ensures { λ r. ⌜ StoredText (now (b .entry)) (now (b .exit)) at (putZone false zone) r ⌝ }
     ensures { λ r. ⌜ r ≤ at + 6 ⌝ }
 {
     match zone {
@@ -207,7 +207,7 @@ fn put_zone(b: &mut [u8], at: usize, zone: Zone) -> usize
 // A time.
 fn put_time(b: &mut [u8], at: usize, time: Time) -> usize
     requires { ⌜ (time .digits ≤ 9) × (at + 24 ≤ length (now b)) ⌝ }
-    ensures { λ r. ⌜ Put (now (b .entry)) (now (b .exit)) at (putTime canonical time) r ⌝ }
+    ensures { λ r. ⌜ StoredText (now (b .entry)) (now (b .exit)) at (putTime canonical time) r ⌝ }
     ensures { λ r. ⌜ r ≤ at + 24 ⌝ }
 {
     let clock = time.clock;
@@ -220,7 +220,7 @@ fn put_time(b: &mut [u8], at: usize, time: Time) -> usize
 // A value.
 pub(crate) fn put_value(b: &mut [u8], at: usize, value: Value) -> usize
     requires { ⌜ (formDigits (valueForm value) ≤ 9) × (at + 52 ≤ length (now b)) ⌝ }
-    ensures { λ r. ⌜ Put (now (b .entry)) (now (b .exit)) at (textOf value) r ⌝ }
+    ensures { λ r. ⌜ StoredText (now (b .entry)) (now (b .exit)) at (textOf value) r ⌝ }
     ensures { λ r. ⌜ r ≤ at + 52 ⌝ }
 {
     match value {

@@ -3,7 +3,7 @@ ghost use mathlib.Core.Path.{_≡_};
 ghost use Prim.Native.Nat.{_<_};
 ghost use lib.ListN.{drop};
 ghost use Rattle.calendar.specs.Years.{yearAt};
-ghost use Rattle.texts.specs.Years.{longest, signedFits, signedYear, getSigned, getYear};
+ghost use Rattle.texts.specs.Years.{longestYear, signedFits, signedYear, getSigned, getYear};
 ghost use Rattle.reading.specs.Steps.{seenYear};
 use crate::fields::digits;
 use crate::fields::leading_digits;
@@ -18,7 +18,7 @@ const LONGEST: usize = 5;
 
 // Whether so many digits that give a number are a year's after a sign.
 fn signed_fits(below: bool, width: usize, number: u32) -> bool
-    ensures { λ r. ⌜ r ≡ signedFits longest below width number ⌝ }
+    ensures { λ r. ⌜ r ≡ signedFits longestYear below width number ⌝ }
 {
     if width < 4 {
         return false;
@@ -45,7 +45,7 @@ fn signed_year(below: bool, number: u32) -> Year
 
 // A year's digits after its sign.
 fn signed(text: &[u8], at: usize, below: bool) -> YearStep
-    ensures { λ r. ⌜ seenYear (now (text .entry)) r ≡ getSigned longest below (drop at (now (text .entry))) ⌝ }
+    ensures { λ r. ⌜ seenYear (now (text .entry)) r ≡ getSigned longestYear below (drop at (now (text .entry))) ⌝ }
 {
     let width = leading_digits(text, at);
     if LONGEST < width {
@@ -62,7 +62,7 @@ fn signed(text: &[u8], at: usize, below: bool) -> YearStep
 
 // A year: four digits, or a sign with its digits.
 pub(crate) fn year(text: &[u8], at: usize) -> YearStep
-    ensures { λ r. ⌜ seenYear (now (text .entry)) r ≡ getYear longest (drop at (now (text .entry))) ⌝ }
+    ensures { λ r. ⌜ seenYear (now (text .entry)) r ≡ getYear longestYear (drop at (now (text .entry))) ⌝ }
 {
     if mark(text, at, b'-') {
         return signed(text, at + 1, true);

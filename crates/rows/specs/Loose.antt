@@ -13,7 +13,7 @@ use Rattle.texts.specs.declared.values.Time.{Time}
 use Rattle.texts.specs.declared.values.Value.{Value}
 use Rattle.fields.specs.Bits.{BitString}
 use Rattle.fields.specs.Fields.{Field}
-use Rattle.fields.specs.Spelled.{Spelled, spelledFields, wellSpelled, spelledBits}
+use Rattle.fields.specs.Spelled.{SpelledField, spelledFields, wellSpelled, spelledBits}
 use Rattle.rows.specs.Fields.{otherYear, yearFields, dayFields, clockFields, longFraction, fractionFields, zoneFields}
 use Rattle.rows.specs.Ranges.{carried}
 use Rattle.rows.specs.declared.YearRow.{YearRow}
@@ -40,10 +40,10 @@ looseFields other long row (Value.Time time) = looseTime long time
 looseFields other long row (Value.DateTime date time) = looseDate other row date ++ looseTime long time
 
 -- That bits begin with a loose spelling of a value of the form whose parts are in the ranges of their fields; and what is left.
-pub record Readable (row : YearRow) (form : Form) (value : Value) (bits rest : BitString) : Type 0 where
+pub record ReadableBits (row : YearRow) (form : Form) (value : Value) (bits rest : BitString) : Type 0 where
   pub other : Bool
   pub long : Bool
-  pub spelled : List Spelled
+  pub spelled : List SpelledField
   pub formed : valueForm value ≡ form
   pub inRange : carried value ≡ true
   pub fields : spelledFields spelled ≡ looseFields other long row value

@@ -6,3 +6,7 @@ pub mod Written
 pub mod Complete
 pub mod ListOrder
 pub mod WellFormed
+pub mod Words
+pub mod Arranged
+pub mod Converse
+pub mod NoRow

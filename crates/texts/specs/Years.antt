@@ -7,8 +7,8 @@ use lib.IntN.{ℤ, pos, negsuc}
 use lib.ListN.{drop}
 use Rattle.calendar.specs.Years.{astronomicalOf, yearAt}
 use Rattle.calendar.specs.declared.years.Year.{Year}
-use Rattle.texts.specs.Octets.{hyphen, plus, head}
-use Rattle.texts.specs.Reads.{Read, got, bad, bind}
+use Rattle.texts.specs.Octets.{hyphen, plus, firstOctet}
+use Rattle.texts.specs.Reads.{Read, got, bad, handOn}
 use Rattle.texts.specs.Digits.{putDigits, getDigits, leading}
 
 -- How many decimal digits a number has, none for 0; at most f are counted.
@@ -30,8 +30,8 @@ abbrev pub putYear : Year → List ℕ
 putYear y = yearText (astronomicalOf y)
 
 -- The most digits of a year that is read: "a sign and five digits".
-abbrev pub longest : ℕ
-longest = 5
+abbrev pub longestYear : ℕ
+longestYear = 5
 
 -- Whether k digits that give n are a year's after a sign: "`-` and four digits not all 0, or a sign and five
 -- digits not beginning with 0"; the readers below take the most digits, most, as an argument.
@@ -46,11 +46,11 @@ signedYear false n = pos n
 
 unfoldable pub getSigned : ℕ → Bool → List ℕ → Read Year
 getSigned most below l =
-    bind (getDigits (leading l) l) λ n r. cond (signedFits most below (leading l) n) (got (yearAt (signedYear below n)) r) bad
+    handOn (getDigits (leading l) l) λ n r. cond (signedFits most below (leading l) n) (got (yearAt (signedYear below n)) r) bad
 
 -- "A year is read as four digits, .. whichever Year the type names", or after a sign.
 unfoldable pub getYear : ℕ → List ℕ → Read Year
 getYear most l =
-    cond (eqb (head l) hyphen) (getSigned most true (drop 1 l))
-    (cond (eqb (head l) plus) (getSigned most false (drop 1 l))
-    (bind (getDigits 4 l) λ n r. got (yearAt (pos n)) r))
+    cond (eqb (firstOctet l) hyphen) (getSigned most true (drop 1 l))
+    (cond (eqb (firstOctet l) plus) (getSigned most false (drop 1 l))
+    (handOn (getDigits 4 l) λ n r. got (yearAt (pos n)) r))

@@ -66,16 +66,16 @@ readyOf Name.TimeOfDay = TypeRead.«Type» TIME-OF-DAY
 readyOf Name.DateTime = TypeRead.«Type» DATE-TIME
 
 -- Whether the value has a date, ..
-abbrev pub dated : Parts → Bool
-dated (Parts.Date d) = true
-dated (Parts.Time t) = false
-dated (Parts.DateTime d t) = true
+abbrev pub hasDate : Parts → Bool
+hasDate (Parts.Date d) = true
+hasDate (Parts.Time t) = false
+hasDate (Parts.DateTime d t) = true
 
 -- .. and whether it has a time.
-abbrev pub timed : Parts → Bool
-timed (Parts.Date d) = false
-timed (Parts.Time t) = true
-timed (Parts.DateTime d t) = true
+abbrev pub hasTime : Parts → Bool
+hasTime (Parts.Date d) = false
+hasTime (Parts.Time t) = true
+hasTime (Parts.DateTime d t) = true
 
 -- Whether there is no lowest and highest year.
 abbrev pub everyYear : Window → Bool
@@ -87,8 +87,8 @@ unfoldable pub placed : Limits → Bool → Bool → Bool
 placed limits date time = (everyYear (limits .window) || date) && (limits .hour24 || time)
 
 -- A date with this lowest and highest year, ..
-abbrev pub inWindow : Window → DateType → DateType
-inWindow w d = record { form = d .form; years = d .years; window = w }
+abbrev pub withWindow : Window → DateType → DateType
+withWindow w d = record { form = d .form; years = d .years; window = w }
 
 -- .. a time with or without hour 24, ..
 abbrev pub withHour24 : Bool → TimeType → TimeType
@@ -96,14 +96,14 @@ withHour24 h t = record { form = t .form; hour24 = h }
 
 -- .. and settings with the restrictions of these limits, and no other.
 abbrev pub restricted : Limits → Parts → Parts
-restricted limits (Parts.Date d) = Parts.Date (inWindow (limits .window) d)
+restricted limits (Parts.Date d) = Parts.Date (withWindow (limits .window) d)
 restricted limits (Parts.Time t) = Parts.Time (withHour24 (limits .hour24) t)
-restricted limits (Parts.DateTime d t) = Parts.DateTime (inWindow (limits .window) d) (withHour24 (limits .hour24) t)
+restricted limits (Parts.DateTime d t) = Parts.DateTime (withWindow (limits .window) d) (withHour24 (limits .hour24) t)
 
 -- A type under limits, or refusal 1: "a restriction where it has no place".
 unfoldable pub limitedTo : Limits → «Type» → TypeRead
 limitedTo limits t =
-    cond (placed limits (dated (t .parts)) (timed (t .parts)))
+    cond (placed limits (hasDate (t .parts)) (hasTime (t .parts)))
     (TypeRead.«Type» (record { name = t .name; parts = restricted limits (t .parts) }))
     TypeRead.Unreadable
 

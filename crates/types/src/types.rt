@@ -1,6 +1,6 @@
 ghost use mathlib.Core.Path.{_≡_};
 ghost use mathlib.Core.Bool.{_||_};
-ghost use Rattle.types.specs.Types.{basicAlone, dated, digitsOfParts, everyYear, formOf, formOfParts, fractionDigits, inWindow, limitedTo, listed, localHms, ownSettings, readyOf, placed, restricted, someYear, timed, unlimitedDate, unlimitedTime, basicYmd, wellFormed, wellParts, withHour24};
+ghost use Rattle.types.specs.Types.{basicAlone, hasDate, digitsOfParts, everyYear, formOf, formOfParts, fractionDigits, withWindow, limitedTo, listed, localHms, ownSettings, readyOf, placed, restricted, someYear, hasTime, unlimitedDate, unlimitedTime, basicYmd, wellFormed, wellParts, withHour24};
 use crate::numbers::clock_number;
 use crate::numbers::date_number;
 use crate::numbers::zone_number;
@@ -119,7 +119,7 @@ pub fn has_place(limits: Limits, date: bool, time: bool) -> bool
 
 // Whether there is a date.
 fn has_date(parts: Parts) -> bool
-    ensures { λ r. ⌜ r ≡ dated parts ⌝ }
+    ensures { λ r. ⌜ r ≡ hasDate parts ⌝ }
 {
     match parts {
         Parts::Date(_) => true,
@@ -130,7 +130,7 @@ fn has_date(parts: Parts) -> bool
 
 // Whether there is a time.
 fn has_time(parts: Parts) -> bool
-    ensures { λ r. ⌜ r ≡ timed parts ⌝ }
+    ensures { λ r. ⌜ r ≡ hasTime parts ⌝ }
 {
     match parts {
         Parts::Date(_) => false,
@@ -141,14 +141,14 @@ fn has_time(parts: Parts) -> bool
 
 // Whether limits have their place beside these settings.
 fn fits(limits: Limits, parts: Parts) -> bool
-    ensures { λ r. ⌜ r ≡ placed limits (dated parts) (timed parts) ⌝ }
+    ensures { λ r. ⌜ r ≡ placed limits (hasDate parts) (hasTime parts) ⌝ }
 {
     has_place(limits, has_date(parts), has_time(parts))
 }
 
 // The same date with this lowest and highest year.
-fn in_window(window: Window, date: DateType) -> DateType
-    ensures { λ r. ⌜ r ≡ inWindow window date ⌝ }
+fn with_window(window: Window, date: DateType) -> DateType
+    ensures { λ r. ⌜ r ≡ withWindow window date ⌝ }
 {
     let form = date.form;
     let years = date.years;
@@ -174,9 +174,9 @@ fn restrict(limits: Limits, parts: Parts) -> Parts
     let window = limits.window;
     let hour24 = limits.hour24;
     match parts {
-        Parts::Date(d) => Parts::Date(in_window(window, d)),
+        Parts::Date(d) => Parts::Date(with_window(window, d)),
         Parts::Time(t) => Parts::Time(with_hour24(hour24, t)),
-        Parts::DateTime(d, t) => Parts::DateTime(in_window(window, d), with_hour24(hour24, t)),
+        Parts::DateTime(d, t) => Parts::DateTime(with_window(window, d), with_hour24(hour24, t)),
     }
 }
 

@@ -102,13 +102,6 @@ told (done result bits) room = go (leb (length result) (length room)) refl where
   go false e = let k = short result room bits (leb-false (length result) (length room) e) in withheld Refusal.Room (k .0) (k .1)
 
 module _ (answer : Answer) (room : List ℕ) where
-  -- The number is 0 or a refusal's.
-  pub number-told : (outcomeOf answer room .number ≡ 0) ⊎ ((why : Refusal) × (outcomeOf answer room .number ≡ numberOf why))
-  number-told = go (told answer room) where
-    go : Told answer room → (outcomeOf answer room .number ≡ 0) ⊎ ((why : Refusal) × (outcomeOf answer room .number ≡ numberOf why))
-    go (given result bits a h o) = inl (rw o)
-    go (withheld why o r) = inr (why, rw o)
-
   -- A refusal has length 0, bit count 0 and the room as it was.
   pub refusal-told : (outcomeOf answer room .number ≡ 0 → ⊥)
       → (outcomeOf answer room .length .count ≡ 0) × (outcomeOf answer room .bits .count ≡ 0) × (roomOf answer room ≡ room)

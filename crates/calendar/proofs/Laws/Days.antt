@@ -151,18 +151,7 @@ module _ (n k : ℕ) where
       let period : (n + 400 * k) % 400 ≡ n % 400 = omega arith in
       rw (four, hundred, period)
 
--- .. and over every year: 400 k years on, 1 January is 146097 k days on, and the years are leap alike.
-pub newYear-period : (y : ℤ) (k : ℕ) → newYear (y +ℤ pos (400 * k)) ≡ newYear y +ℤ pos (146097 * k)
-newYear-period y k =
-    every-year (λ (y : ℤ). newYear (y +ℤ pos (400 * k)) ≡ newYear y +ℤ pos (146097 * k))
-    (λ n m.
-    ap newYear (later n m k)
-    ∙ days-at (n + 400 * k) m
-    ∙ ap (λ (d : ℕ). subℕ d (146097 * m)) (days-period n k)
-    ∙ sym (Z.add-pos (daysOf n) (146097 * m) (146097 * k))
-    ∙ ap (λ (z : ℤ). z +ℤ pos (146097 * k)) (sym (days-at n m)))
-    y
-
+-- .. and over every year: 400 k years on, the years are leap alike.
 pub leap-period : (y : ℤ) (k : ℕ) → leapOf (y +ℤ pos (400 * k)) ≡ leapOf y
 leap-period y k =
     every-year (λ (y : ℤ). leapOf (y +ℤ pos (400 * k)) ≡ leapOf y)

@@ -35,7 +35,7 @@ use Rattle.values.specs.Holding.{admits, admitsDate}
 use Rattle.values.proofs.Laws.Existing.{exists-digits}
 use Rattle.values.proofs.Laws.Holding.{in-type}
 use Rattle.lists.specs.Octets.{eqList}
-use Rattle.kinds.specs.Kinds.{some, none}
+use mathlib.Core.Option.{some, none}
 use Rattle.kinds.specs.Coding.{judgedAs}
 use Rattle.kinds.specs.Causes.{Accepted, Holds, Judged, Lawful}
 use Rattle.kinds.proofs.Laws.Coding as Coding

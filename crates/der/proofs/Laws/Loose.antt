@@ -9,12 +9,12 @@ use lib.ListN.{length, length-append, take, drop, take-append-drop}
 use lib.Seq.{length-take-le, take-append-seam, drop-append-seam}
 use borrow.Author.Tests.{le-leb, leb-true}
 use Rattle.calendar.proofs.Laws.Bools.{both}
-use Rattle.kinds.specs.Kinds.{Option, some, none}
+use mathlib.Core.Option.{Option, some, none}
 use Rattle.lists.specs.Octets.{eqList}
 use Rattle.lists.proofs.Laws.Octets.{equal, equal-test}
 use Rattle.texts.specs.Octets.{colon, hyphen, isDigit, letterT}
 use Rattle.texts.specs.Texts.{readOf, render}
-use Rattle.texts.specs.Years.{longest}
+use Rattle.texts.specs.Years.{longestYear}
 use Rattle.texts.specs.declared.forms.Form.{Form}
 use Rattle.texts.specs.declared.texts.TextRead.{TextRead}
 use Rattle.texts.specs.declared.values.Spelling.{Spelling}
@@ -24,7 +24,7 @@ use Rattle.texts.proofs.Laws.Texts.{render-read}
 use Rattle.types.specs.declared.types.Name.{Name}
 use Rattle.encodings.specs.Encodings.{ofText}
 use Rattle.der.specs.Elements.{contentsOf, element, omits, tagOf, without}
-use Rattle.der.specs.Loose.{Readable, StandsFor}
+use Rattle.der.specs.Loose.{ReadableElement, StandsFor}
 use Rattle.der.specs.Readings.{allDigits, dated, digitsOnly, readContents, readElement, readLength, separated, timed}
 use Rattle.der.proofs.Laws.Contents.{digit-kept, without-none}
 
@@ -100,7 +100,7 @@ module _ (form : Form) (v : Value) where
       go (TextRead.Value w s) r e =
           let q : w ≡ v = cc in
           let p : readOf form text ≡ TextRead.Value v s = r ∙ ap (λ (x : Value). TextRead.Value x s) q in
-          let l : text ≡ render s v = render-read longest (omega arith) (omega arith) form text v s p .0 in
+          let l : text ≡ render s v = render-read longestYear (omega arith) (omega arith) form text v s p .0 in
           (s, sym l, ap (readOf form) (sym l) ∙ p)
       go TextRead.NotOfForm r e = absurd (let z : _≡_ {A = ℕ} 0 1 = cc in omega arith)
 
@@ -138,7 +138,7 @@ module _ (form : Form) (v : Value) where
       rw (le-leb (length contents) 127 h, le-leb (length contents) (length (contents ++ rest)) (let a = length-append contents rest in omega arith), take-append-seam contents rest) e
 
   -- What is read is an element of the value, and something after it; ..
-  pub der-reads : (name : Name) (octets : List ℕ) → readElement name form octets ≡ some v → (rest : List ℕ) × Readable name form v octets rest
+  pub der-reads : (name : Name) (octets : List ℕ) → readElement name form octets ≡ some v → (rest : List ℕ) × ReadableElement name form v octets rest
   unfolding readElement element
   der-reads name octets e =
       let p = let-through (eqList (take (length (tagOf name)) octets) (tagOf name)) _ v e in
@@ -160,7 +160,7 @@ module _ (form : Form) (v : Value) where
       )
 
   -- .. and every such element is read.
-  pub der-reads-all : (name : Name) (octets rest : List ℕ) → Readable name form v octets rest → readElement name form octets ≡ some v
+  pub der-reads-all : (name : Name) (octets rest : List ℕ) → ReadableElement name form v octets rest → readElement name form octets ≡ some v
   unfolding readElement element
   der-reads-all name octets rest r =
       let t : octets ≡ tagOf name ++ length (r .contents) ∷ (r .contents ++ rest) =

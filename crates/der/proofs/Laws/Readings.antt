@@ -12,9 +12,9 @@ use borrow.Author.Tests.{le-leb, lt-leb, eqb-true}
 use Rattle.calendar.proofs.Laws.Bools.{both}
 use Rattle.lists.specs.Octets.{eqList}
 use Rattle.lists.proofs.Laws.Octets.{unequal-length}
-use Rattle.printing.specs.Stores.{Put}
+use Rattle.printing.specs.Stores.{StoredText}
 use Rattle.printing.proofs.Laws.Stores.{put-octet, put-then, sets-front}
-use Rattle.kinds.specs.Kinds.{none}
+use mathlib.Core.Option.{none}
 use Rattle.texts.specs.Octets.{colon, hyphen, letterT}
 use Rattle.texts.specs.declared.forms.Form.{Form}
 use Rattle.types.specs.declared.types.Name.{Name}
@@ -75,9 +75,9 @@ module _ (w : ℕ) (d : List ℕ) (h : w + 2 ≤ length d) where
   third-part = rest-cut (w + 2) d h ∙ sym (drop-drop 2 w d)
 
   -- .. and stored one after another.
-  pub put-separated : (c : ℕ) {l m n o : List ℕ} {at p q r : ℕ} → Put l m at (take w d) p
-      → Put (set m p c) n (p + 1) (take (w + 2 - w) (drop w d)) q → Put (set n q c) o (q + 1) (take (length d - (w + 2)) (drop (w + 2) d)) r
-      → Put l o at (separated c w d) r
+  pub put-separated : (c : ℕ) {l m n o : List ℕ} {at p q r : ℕ} → StoredText l m at (take w d) p
+      → StoredText (set m p c) n (p + 1) (take (w + 2 - w) (drop w d)) q → StoredText (set n q c) o (q + 1) (take (length d - (w + 2)) (drop (w + 2) d)) r
+      → StoredText l o at (separated c w d) r
   unfolding separated
   put-separated c {l} {m} {n} {o} {at} {p} {q} {r} f g k =
       let two : w + 2 - w ≡ 2 = omega arith in
@@ -89,12 +89,12 @@ unfolding contentsOf
 copied l = without-none l
 
 -- A text that was stored at the front is the front, ..
-pub front-stored : {l m t : List ℕ} {r : ℕ} → Put l m 0 t r → length t ≤ length l → take r m ≡ t
+pub front-stored : {l m t : List ℕ} {r : ℕ} → StoredText l m 0 t r → length t ≤ length l → take r m ≡ t
 front-stored {l} {m} {t} {r} p h =
     ap (take r) (p .text ∙ sets-front l t h) ∙ take-at t (drop (length t) l) r (let e : r ≡ 0 + length t = p .end in omega arith)
 
 -- .. and all of the buffer, where it fills it.
-pub all-stored : {l m t : List ℕ} {r : ℕ} → Put l m 0 t r → length t ≡ length l → m ≡ t
+pub all-stored : {l m t : List ℕ} {r : ℕ} → StoredText l m 0 t r → length t ≡ length l → m ≡ t
 all-stored {l} {m} {t} {r} p h =
     p .text ∙ sets-front l t (omega arith) ∙ rw (drop-of-length-le l (let z : length l ≤ length t = omega arith in z), append-nil)
 
@@ -106,8 +106,8 @@ module _ (d : List ℕ) (e : length d ≡ 14) where
   pub time-digits : length (take (length d - 8) (drop 8 d)) ≡ 6
   time-digits = length-take-le (length d - 8) (drop 8 d) (let a = length-drop 8 d in omega arith) ∙ omega arith
 
-  pub date-time-stored : {l m n : List ℕ} {p r : ℕ} → length l ≡ 19 → Put l m 0 (dated (take 8 d)) p
-      → Put (set m p letterT) n (p + 1) (timed (take (length d - 8) (drop 8 d))) r → n ≡ dated (take 8 d) ++ letterT ∷ timed (drop 8 d)
+  pub date-time-stored : {l m n : List ℕ} {p r : ℕ} → length l ≡ 19 → StoredText l m 0 (dated (take 8 d)) p
+      → StoredText (set m p letterT) n (p + 1) (timed (take (length d - 8) (drop 8 d))) r → n ≡ dated (take 8 d) ++ letterT ∷ timed (drop 8 d)
   date-time-stored {l} {m} {n} {p} {r} h f g =
       let q : take (length d - 8) (drop 8 d) ≡ drop 8 d = rest-cut 8 d (omega arith) in
       let t : length (timed (drop 8 d)) ≡ 8 = separated-size colon 2 (drop 8 d) (let a = length-drop 8 d in omega arith) ∙ (let a = length-drop 8 d in omega arith) in

@@ -11,7 +11,7 @@ use Rattle.answers.specs.declared.refusals.Refusal.{Refusal}
 use Rattle.texts.specs.Texts.{readOf, render, textOf}
 use Rattle.texts.specs.Forms.{valueForm}
 use Rattle.texts.specs.Times.{canonical}
-use Rattle.texts.specs.Years.{longest}
+use Rattle.texts.specs.Years.{longestYear}
 use Rattle.texts.proofs.Laws.Forms.{other-form}
 use Rattle.texts.proofs.Laws.Texts.{render-read}
 use Rattle.texts.specs.declared.forms.Form.{Form}
@@ -29,7 +29,7 @@ use Rattle.values.specs.declared.admission.Admission.{Admission}
 use Rattle.values.specs.declared.admission.Judgement.{Judgement}
 use Rattle.values.proofs.Laws.Existing.{exists-digits, held-fits, held-read}
 use Rattle.values.proofs.Laws.Holding.{form-same, held, holds-both, in-type, same-form}
-use Rattle.kinds.specs.Kinds.{Option, some, none}
+use mathlib.Core.Option.{Option, some, none}
 use Rattle.kinds.specs.Coding.{encoded, decoded, judgedText, judgedAs}
 use Rattle.kinds.specs.Causes.{Holds}
 use Rattle.kinds.proofs.Laws.Coding as Coding
@@ -57,7 +57,7 @@ one-form t v h f e = go (sameForm (valueForm v) f) refl
     go true b = sym (in-type t v (held t v h .1) .0) ∙ same-form (valueForm v) f b
     go false b =
         let n : readOf f (textOf v) ≡ TextRead.NotOfForm =
-        other-form longest (omega arith) longest (omega arith) (omega arith) (omega arith) canonical v f (held-fits t v h) (λ q. false≢true (sym b ∙ form-same (valueForm v) f q)) in
+        other-form longestYear (omega arith) longestYear (omega arith) (omega arith) (omega arith) canonical v f (held-fits t v h) (λ q. false≢true (sym b ∙ form-same (valueForm v) f q)) in
         absurd (let z : 3 ≡ 0 = sym (ap textNumber n) ∙ e in omega arith)
 
 -- A value that exists, and that a type doesn't hold, isn't in the type.
@@ -133,5 +133,5 @@ module _ {R : Type 0} (row : Ty → R) (encoding : R → Value → List ℕ) (co
           → (v : Value) × Holds (encodedBy row encoding count readOctets) t v × (s : Spelling) × (text ≡ render s v)
       go (TextRead.Value w s) r v h q =
           let p : w ≡ v = cc in
-          (v, h, s, render-read longest (omega arith) (omega arith) (formOf t) text w s r .0 ∙ ap (render s) p)
+          (v, h, s, render-read longestYear (omega arith) (omega arith) (formOf t) text w s r .0 ∙ ap (render s) p)
       go TextRead.NotOfForm r v h q = absurd (let z : _≡_ {A = ℕ} 0 1 = cc in omega arith)

@@ -12,7 +12,7 @@ use Rattle.fields.specs.Bits.{BitString, bitsOf, octetsOf, unpacked}
 use Rattle.fields.specs.Integers.{within, fewest, twos}
 use Rattle.fields.specs.Fields.{Field, Ranged, Free, width, fieldBits, layout, bitCount}
 use Rattle.fields.specs.Readings.{Found, found, nothing, onward, Reading, give, ranged, free, refuse, _>>=_, aRanged, aFree, require, readRanged, readFree, run, over}
-use Rattle.fields.specs.Spelled.{Spelled, Range, Integer, spelledFields, wellSpelled, spelledBits}
+use Rattle.fields.specs.Spelled.{SpelledField, Range, Integer, spelledFields, wellSpelled, spelledBits}
 use Rattle.fields.proofs.Laws.Cases.{by-test, both}
 use Rattle.fields.proofs.Laws.Found.{nothing-not, found-value, found-rest, found-more}
 use Rattle.fields.proofs.Laws.Bits.{unpacked-octets}
@@ -61,15 +61,6 @@ pub over-free : (z : ℤ) (fs : List Field) → within 4 z ≡ true → over aFr
 unfolding over aFree
 over-free z fs h = simp h
 
-pub over-give : {A : Type 0} (a : A) (fs : List Field) → over (give a) fs ≡ found a fs
-unfolding over
-over-give a fs = refl
-
-pub over-require : {A : Type 0} (t : Bool) (k : Reading A) (fs : List Field) → t ≡ true → over (require t k) fs ≡ over k fs
-unfolding require
-over-require true k fs h = refl
-over-require false k fs h = absurd (false≢true h)
-
 -- ---- a reading looks at its own fields only
 
 module _ {A : Type 0} where
@@ -89,15 +80,10 @@ module _ {A : Type 0} where
       by-test (within 4 z) (λ t. simp t (over-more (k z) fs gs a (simp t at e))) (λ t. nothing-not (simp t at e))
   over-more refuse fs gs a e = nothing-not e
 
--- What the first reading takes in whole, and then the other.
-pub over-then : {A B : Type 0} (t : Reading A) (f : A → Reading B) (fs gs : List Field) (a : A) → over t fs ≡ found a []
-    → over (t >>= f) (fs ++ gs) ≡ over (f a) gs
-over-then t f fs gs a e = over-bind t f (fs ++ gs) ∙ ap (λ g. onward g (λ a. over (f a))) (over-more t fs gs a e)
-
 -- ---- from the bits of fields that are well spelled, a reading is what it is over the fields
 
 -- An integer that is well spelled stands in 1 to 4 octets that hold it, and so on.
-pub well-integer : (n : ℕ) (z : ℤ) (ws : List Spelled) → wellSpelled (Integer n z ∷ ws) ≡ true
+pub well-integer : (n : ℕ) (z : ℤ) (ws : List SpelledField) → wellSpelled (Integer n z ∷ ws) ≡ true
     → (1 ≤ n) × (n ≤ 4) × (within n z ≡ true) × (wellSpelled ws ≡ true)
 unfolding wellSpelled
 well-integer n z ws e =
@@ -107,7 +93,7 @@ well-integer n z ws e =
     (leb-true 1 n (c .0), leb-true n 4 (c .1), b .1, a .1)
 
 module _ {A : Type 0} where
-  pub run-spelled : (t : Reading A) (ws : List Spelled) (s : BitString) (a : A) → wellSpelled ws ≡ true → over t (spelledFields ws) ≡ found a []
+  pub run-spelled : (t : Reading A) (ws : List SpelledField) (s : BitString) (a : A) → wellSpelled ws ≡ true → over t (spelledFields ws) ≡ found a []
       → run t (spelledBits ws ++ s) ≡ found a s
   unfolding over run spelledBits wellSpelled spelledFields
   run-spelled (give b) [] s a g e = ap (λ c. found c s) (found-value e)
@@ -143,7 +129,7 @@ module _ {A : Type 0} where
 
 -- Bits begin with fields that are well spelled and drive the reading to what it gives.
 pub record Spells {A : Type 0} (t : Reading A) (s : BitString) (a : A) (rest : BitString) : Type 0 where
-  pub spelled : List Spelled
+  pub spelled : List SpelledField
   pub well : wellSpelled spelled ≡ true
   pub drives : over t (spelledFields spelled) ≡ found a []
   pub stood : s ≡ spelledBits spelled ++ rest
@@ -185,7 +171,7 @@ module _ {A : Type 0} where
 
 -- ---- the encoder's own spelling: the fewest octets
 
-unfoldable pub strict : List Field → List Spelled
+unfoldable pub strict : List Field → List SpelledField
 strict [] = []
 strict (Ranged r v ∷ fs) = Range r v ∷ strict fs
 strict (Free z ∷ fs) = Integer (fewest z) z ∷ strict fs
@@ -227,10 +213,3 @@ strict-well refuse fs a e = nothing-not e
 pub run-layout : {A : Type 0} (t : Reading A) (fs : List Field) (s : BitString) (a : A) → over t fs ≡ found a [] → run t (layout fs ++ s) ≡ found a s
 run-layout t fs s a e =
     rw (layout-strict fs) (run-spelled t (strict fs) s a (strict-well t fs a e) (rw (fields-strict fs) e))
-
--- The same from octets: the zeros that fill the last one are left.
-pub run-octets : {A : Type 0} (t : Reading A) (fs : List Field) (a : A) → over t fs ≡ found a []
-    → run t (unpacked (octetsOf (layout fs))) ≡ found a (replicate (8 * octetsFor (record { count = bitCount fs }) .count - bitCount fs) false)
-run-octets t fs a e =
-    rw (unpacked-octets (layout fs), length-layout fs)
-    (run-layout t fs (replicate (8 * octetsFor (record { count = bitCount fs }) .count - bitCount fs) false) a e)

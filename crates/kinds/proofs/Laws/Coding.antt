@@ -9,7 +9,8 @@ use Rattle.answers.specs.declared.counts.Bits.{Bits}
 use Rattle.answers.specs.declared.refusals.Refusal.{Refusal}
 use Rattle.lists.specs.Octets.{eqList}
 use Rattle.lists.proofs.Laws.Octets.{equal, equal-test}
-use Rattle.kinds.specs.Kinds.{Kind, Option, some, none}
+use mathlib.Core.Option.{Option, some, none}
+use Rattle.kinds.specs.Kinds.{Kind}
 use Rattle.kinds.specs.Coding.{judgedAs, judgedText, encoded, compared, judgedOctets, decoded}
 use Rattle.kinds.specs.Causes.{Holds, Lawful, Accepted, Judged, one, three, four, five, six, zero}
 

@@ -9,7 +9,7 @@ use lib.Dec.{leb}
 use lib.ListN.{length, getD, take, drop, set, drop-of-length-le}
 use lib.Seq.{sets, drop-cons, take-suc-set, append-snoc}
 use borrow.Author.Tests.{le-leb, lt-leb, lt-ltb, le-ltb}
-use Rattle.kinds.specs.Kinds.{Option, some, none}
+use mathlib.Core.Option.{Option, some, none}
 use Rattle.lines.specs.Lines.{hexDigit, toHex, hexNumber, inFront, fromHex}
 
 -- An octet is a digit, a capital, a small letter, or stands before, between or behind them.

@@ -15,9 +15,9 @@ use Rattle.answers.specs.Outcomes.{Answer, done, refused, outcomeOf, roomOf}
 use Rattle.answers.specs.Refusals.{numberOf}
 use Rattle.lists.specs.Lists.{spanTo}
 use Rattle.lists.specs.Octets.{bytes}
-use Rattle.printing.specs.Stores.{Put}
-use Rattle.lines.specs.Lines.{longest, unasked, shown, worked, cutAgain, replyOf}
-use Rattle.lines.specs.Rooms.{capacity, replyLength, roomWith}
+use Rattle.printing.specs.Stores.{StoredText}
+use Rattle.lines.specs.Lines.{longestLine, unasked, shown, worked, cutAgain, replyOf}
+use Rattle.lines.specs.Rooms.{replyCapacity, replyLength, roomWith}
 use Rattle.lines.specs.Steps.{replyTo}
 use Rattle.answers.proofs.Laws.Outcomes.{Told, given, withheld, told, number-range, enough, none}
 use Rattle.printing.proofs.Laws.Stores.{sets-front}
@@ -72,7 +72,7 @@ reply-shown show (done result bits) buffer most =
 pub answer-put : (show : List ℕ → List ℕ) (answer : Answer) (buffer : List ℕ) {left room m : List ℕ} {outcome : Outcome} {r : ℕ} →
     ((result : List ℕ) (bits : Bits) → answer ≡ done result bits → length result ≤ length buffer) →
     outcome ≡ outcomeOf answer buffer → left ≡ roomOf answer buffer →
-    Put room m 0 (replyTo show (outcome .number) (outcome .length .count) left) r → Put room m 0 (shown show answer) r
+    StoredText room m 0 (replyTo show (outcome .number) (outcome .length .count) left) r → StoredText room m 0 (shown show answer) r
 answer-put show answer buffer most e f p = rw (← reply-shown show answer buffer most, ← e, ← f) p
 
 -- ---- the semicolons
@@ -95,9 +95,9 @@ module _ (work rest : List ℕ) {second : ℕ} (found : second ≡ 0 + spanTo 59
       rw (s, t, take-all (length rest - (second + 1)) (drop (second + 1) rest) (omega arith))
 
 module _ (line : List ℕ) where
-  pub long-line : longest < length line → replyOf line ≡ unasked
+  pub long-line : longestLine < length line → replyOf line ≡ unasked
   unfolding replyOf
-  long-line h = rw (lt-leb (length line) longest h)
+  long-line h = rw (lt-leb (length line) longestLine h)
 
   module _ {first : ℕ} (found : first ≡ 0 + spanTo 59 (drop 0 line)) where
     pub uncut-line : length line ≤ first → replyOf line ≡ unasked
@@ -106,7 +106,7 @@ module _ (line : List ℕ) where
         let e : first ≡ 0 + spanTo 59 line = found in
         rw (le-ltb (spanTo 59 line) (length line) (omega arith), and-false)
 
-    pub cut-line : length line ≤ longest → first < length line →
+    pub cut-line : length line ≤ longestLine → first < length line →
         replyOf line ≡ cutAgain (take first line) (take (length line - (first + 1)) (drop (first + 1) line))
     unfolding replyOf
     cut-line k h =
@@ -114,19 +114,19 @@ module _ (line : List ℕ) where
         let s : spanTo 59 line ≡ first = omega arith in
         let t : ltb first (length line) ≡ true = lt-ltb _ _ h in
         let d : length (drop (first + 1) line) ≡ length line - (first + 1) = length-drop (first + 1) line in
-        rw (le-leb (length line) longest k, s, t, take-all (length line - (first + 1)) (drop (first + 1) line) (omega arith))
+        rw (le-leb (length line) longestLine k, s, t, take-all (length line - (first + 1)) (drop (first + 1) line) (omega arith))
 
 -- ---- in a lent room
 
 module _ (line room : List ℕ) where
-  pub short-room : length room < capacity → (0 ≡ replyLength line room) × ((room ≡ roomWith line room) × (0 ≤ length room))
+  pub short-room : length room < replyCapacity → (0 ≡ replyLength line room) × ((room ≡ roomWith line room) × (0 ≤ length room))
   unfolding replyLength roomWith
-  short-room h = let t = lt-leb capacity (length room) h in (rw t, (rw t, omega arith))
+  short-room h = let t = lt-leb replyCapacity (length room) h in (rw t, (rw t, omega arith))
 
-  pub replied : {m text : List ℕ} {r : ℕ} → capacity ≤ length room → replyOf line ≡ text → Put room m 0 text r → r ≤ capacity →
+  pub replied : {m text : List ℕ} {r : ℕ} → replyCapacity ≤ length room → replyOf line ≡ text → StoredText room m 0 text r → r ≤ replyCapacity →
       (r ≡ replyLength line room) × ((m ≡ roomWith line room) × (r ≤ length room))
   unfolding replyLength roomWith
   replied {text = text} h e p k =
-      let t = le-leb capacity (length room) h in
+      let t = le-leb replyCapacity (length room) h in
       let n : length text ≤ length room = omega (arith, p .end) in
       (rw (t, e) (p .end ∙ omega arith), (rw (t, e) (p .text ∙ sets-front room text n), omega arith))

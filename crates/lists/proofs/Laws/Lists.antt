@@ -7,7 +7,7 @@ use native.Mathlib.Omega.{arith}
 use lib.Dec.{eqb}
 use lib.ListN.{length, take, drop, length-drop}
 use lib.Seq.{drop-drop, take-all}
-use Rattle.lists.specs.Words.{placeIn, basicWords, dateWords, yearWords, clockWords, fractionNumber, orElse, pair, firstOf, pairOf}
+use Rattle.lists.specs.Words.{placeIn, basicWords, dateWords, yearWords, clockWords, fractionNumber, firstNumber, pair, firstOf, pairOf}
 use Rattle.lists.specs.Lists.{splitOn, spanTo, addPair, addPairs}
 use Rattle.lists.specs.declared.words.Pair.{Pair}
 use Rattle.lists.specs.declared.lists.Settings.{Settings}
@@ -23,7 +23,7 @@ first-of P p q h k = go (eqb (p .setting) 0) where
 -- What holds of a setting of each property holds of every pair.
 pub every-pair : (P : Pair → Type 0) (l : List ℕ) →
     P (pair 0 (placeIn basicWords l)) → P (pair 1 (placeIn dateWords l)) → P (pair 2 (placeIn yearWords l)) →
-    P (pair 3 (orElse (placeIn clockWords l) (fractionNumber l))) → ((n : ℕ) → P (pair 4 n)) →
+    P (pair 3 (firstNumber (placeIn clockWords l) (fractionNumber l))) → ((n : ℕ) → P (pair 4 n)) →
     P (pairOf l)
 unfolding pairOf
 every-pair P l b d y t z =

@@ -9,7 +9,7 @@ use lib.ListN.{length, getD, set, length-set}
 use lib.Seq.{getD-set-same, getD-set-other, set-comm}
 use borrow.Author.Tests.{ltb-true, ne-eqb, eqb-true, eqb-false}
 use Rattle.lists.specs.Words.{pairOf}
-use Rattle.lists.specs.Lists.{settings, refused, addPair, addPairs}
+use Rattle.lists.specs.Lists.{settings, refusedList, addPair, addPairs}
 use Rattle.lists.specs.declared.words.Pair.{Pair}
 use Rattle.lists.specs.declared.lists.Settings.{Settings}
 use Rattle.lists.proofs.Laws.Lists.{five-properties}
@@ -21,10 +21,10 @@ fresh ns p = ltb 0 (p .setting) && eqb (getD ns (p .property) 0) 0
 abbrev list : Bool → List ℕ → Settings
 list b ns = record { readable = b; numbers = ns }
 
--- The same property twice is refused, ..
+-- The same property twice is refusedList, ..
 add-twice : (k : Bool) (ns : List ℕ) (p q : Pair) (t : Bool) → fresh ns p ≡ t → p .property ≡ q .property →
     p .property < length ns →
-    addPair (addPair (list k ns) p) q ≡ refused
+    addPair (addPair (list k ns) p) q ≡ refusedList
 unfolding addPair
 add-twice false ns p q t e h l = refl
 add-twice true ns p q false e h l = rw e
@@ -57,7 +57,7 @@ add-comm s p q l hp hq = go (eqb (p .property) (q .property)) refl where
 add-length : (s : Settings) (p : Pair) → length (s .numbers) ≡ 5 → length (addPair s p .numbers) ≡ 5
 unfolding addPair
 add-length s p e = go (s .readable && fresh (s .numbers) p) where
-  go : (t : Bool) → length (cond t (settings (set (s .numbers) (p .property) (p .setting))) refused .numbers) ≡ 5
+  go : (t : Bool) → length (cond t (settings (set (s .numbers) (p .property) (p .setting))) refusedList .numbers) ≡ 5
   go true = length-set (s .numbers) (p .property) (p .setting) ∙ e
   go false = refl
 

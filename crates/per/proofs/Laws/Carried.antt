@@ -15,7 +15,7 @@ use Rattle.calendar.specs.declared.years.Year.{Year}
 use Rattle.calendar.proofs.Laws.Bools.{both}
 use Rattle.calendar.proofs.Laws.Dates.{InRange, in-range}
 use Rattle.texts.specs.Forms.{yearOf}
-use Rattle.texts.specs.Years.{longest}
+use Rattle.texts.specs.Years.{longestYear}
 use Rattle.texts.specs.declared.values.Clock.{Clock}
 use Rattle.texts.specs.declared.values.Time.{Time}
 use Rattle.texts.specs.declared.values.Value.{Value}
@@ -45,14 +45,14 @@ day-carried (Date.YW y w) r = one-to 53 w (r .0) (r .1)
 day-carried (Date.YWD y w d) r = simp (one-to 53 w (r .0) (r .1), one-to 7 d (r .2) (r .3))
 
 -- a year of at most five digits has at most four octets
-year-within : (y : ℤ) → natAbs y < 10 ^ longest → within 4 y ≡ true
+year-within : (y : ℤ) → natAbs y < 10 ^ longestYear → within 4 y ≡ true
 year-within y h = within-in 4 y (small y h)
   where
-    small : (y : ℤ) → natAbs y < 10 ^ longest → mag y < half 4
+    small : (y : ℤ) → natAbs y < 10 ^ longestYear → mag y < half 4
     small (pos n) h = unfold half in omega arith
     small (negsuc n) h = unfold half in omega arith
 
-date-carried : (d : Date) → existsOf d ≡ true → DateFits longest d → dateCarried d ≡ true
+date-carried : (d : Date) → existsOf d ≡ true → DateFits longestYear d → dateCarried d ≡ true
 unfolding dateCarried DateFits YearFits
 date-carried d e f = simp (year-within (astronomicalOf (yearOf d)) (f .0), day-carried d (in-range d e))
 
@@ -88,7 +88,7 @@ time-carried t e =
       zone-carried (t .zone) (r .zone),
     )
 
-fits-carried : (v : Value) → existsValue v ≡ true → Fits longest v → carried v ≡ true
+fits-carried : (v : Value) → existsValue v ≡ true → Fits longestYear v → carried v ≡ true
 unfolding carried Fits
 fits-carried (Value.Date d) e f = date-carried d e f
 fits-carried (Value.Time t) e f = time-carried t e

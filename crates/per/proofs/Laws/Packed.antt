@@ -14,7 +14,7 @@ use Rattle.fields.proofs.Laws.Bits.{length-octets}
 use Rattle.fields.proofs.Laws.Fields.{length-layout}
 use Rattle.rows.specs.Fields.{fieldsOf}
 use Rattle.rows.specs.declared.YearRow.{YearRow}
-use Rattle.rows.proofs.Laws.Widths.{longest}
+use Rattle.rows.proofs.Laws.Widths.{most-bits}
 use Rattle.packing.specs.Packed.{inBuffer, packedOf}
 use Rattle.packing.specs.declared.octets.Packed.{Packed}
 use Rattle.per.specs.Per.{encodingOf, countOf}
@@ -25,7 +25,7 @@ length-encoding row v = length-octets (layout (fieldsOf row v)) ∙ ap (λ (n : 
 
 pub encoding-short : (row : YearRow) (v : Value) → length (encodingOf row v) ≤ 16
 unfolding octetsFor countOf
-encoding-short row v = let l = longest row v in rw (length-encoding row v) (omega arith)
+encoding-short row v = let l = most-bits row v in rw (length-encoding row v) (omega arith)
 
 module _ (row : YearRow) (v : Value) {packed : Packed} (e : packed ≡ packedOf row v) where
   -- the bit count is the encoding's, ..
@@ -36,7 +36,7 @@ module _ (row : YearRow) (v : Value) {packed : Packed} (e : packed ≡ packedOf 
   -- .. the octets that carry it lie in the buffer, ..
   pub packed-short : {n : ℕ} → n ≡ octetsFor (packed .bits) .count → n ≤ 16
   unfolding octetsFor countOf
-  packed-short h = let l = longest row v in rw (h, packed-bits) (omega arith)
+  packed-short h = let l = most-bits row v in rw (h, packed-bits) (omega arith)
 
   -- .. and they are the encoding.
   pub packed-front : {n : ℕ} → n ≡ octetsFor (packed .bits) .count → take n (packed .octets) ≡ encodingOf row v

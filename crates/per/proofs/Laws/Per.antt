@@ -16,14 +16,14 @@ use Rattle.values.specs.Admission.{admitted, judged}
 use Rattle.values.proofs.Laws.Holding.{in-type}
 use Rattle.fields.specs.Bits.{BitString, unpacked}
 use Rattle.fields.specs.Readings.{Found, found, nothing}
-use Rattle.rows.specs.Fields.{rowOf}
-use Rattle.rows.specs.Loose.{Readable}
+use Rattle.rows.specs.Fields.{yearRowOf}
+use Rattle.rows.specs.Loose.{ReadableBits}
 use Rattle.rows.specs.Readings.{readOctets}
 use Rattle.rows.specs.declared.YearRow.{YearRow}
 use Rattle.rows.proofs.Laws.Exact.{read-octets, reads-only, reads-all}
 use Rattle.unpacking.specs.Unpacked.{valueIn}
 use Rattle.unpacking.specs.declared.values.ValueRead.{ValueRead}
-use Rattle.kinds.specs.Kinds.{Option, some, none}
+use mathlib.Core.Option.{Option, some, none}
 use Rattle.kinds.specs.Coding.{judgedAs}
 use Rattle.kinds.specs.Causes.{Accepted, Holds, Judged, Lawful}
 use Rattle.kinds.proofs.Laws.Coding as Coding
@@ -35,19 +35,19 @@ use Rattle.per.proofs.Laws.Packed.{encoding-short}
 abbrev pub bitsGiven : YearRow → Form → List ℕ → Option Value
 bitsGiven row form octets = ofBits (readOctets row form octets)
 
-octets-read : (t : Ty) (v : Value) → Holds per t v → ofBits (readOctets (rowOf t) (formOf t) (encodingOf (rowOf t) v)) ≡ some v
+octets-read : (t : Ty) (v : Value) → Holds per t v → ofBits (readOctets (yearRowOf t) (formOf t) (encodingOf (yearRowOf t) v)) ≡ some v
 unfolding encodingOf
-octets-read t v h = rw (← in-type t v (h .inside) .0) (ap ofBits (read-octets (rowOf t) v (held-carried t v (held-by rowOf encodingOf countOf bitsGiven t v h))))
+octets-read t v h = rw (← in-type t v (h .inside) .0) (ap ofBits (read-octets (yearRowOf t) v (held-carried t v (held-by yearRowOf encodingOf countOf bitsGiven t v h))))
 
 pub per-lawful : Lawful per
-per-lawful = record { text-own = λ t v h. text-read rowOf encodingOf countOf bitsGiven t v h canonical; octets-own = octets-read }
+per-lawful = record { text-own = λ t v h. text-read yearRowOf encodingOf countOf bitsGiven t v h canonical; octets-own = octets-read }
 
 -- Whatever is accepted is the encoding of the value returned.
 pub per-accepted : (t : Ty) (octets text : List ℕ) {bits : Bits} → perDecoded t octets ≡ done text bits → Accepted per t octets text
 per-accepted t octets text {bits} e = Coding.decoded-only per t octets text bits e
 
 -- Two values of one type never share an encoding.
-pub per-one-encoding : (t : Ty) (a b : Value) → Holds per t a → Holds per t b → encodingOf (rowOf t) a ≡ encodingOf (rowOf t) b → a ≡ b
+pub per-one-encoding : (t : Ty) (a b : Value) → Holds per t a → Holds per t b → encodingOf (yearRowOf t) a ≡ encodingOf (yearRowOf t) b → a ≡ b
 per-one-encoding t a b h k e = Coding.one-encoding per per-lawful t a b h k e
 
 -- ---- "Each is given exactly then."
@@ -60,15 +60,15 @@ per-judged-only t octets answer j = Coding.judged-only per t octets answer j
 
 -- A value is read exactly where a loose spelling of it stands in front, whatever follows.
 pub per-reads : (row : YearRow) (form : Form) (octets : List ℕ) (v : Value) → ofBits (readOctets row form octets) ≡ some v
-    → (rest : BitString) × Readable row form v (unpacked octets) rest
+    → (rest : BitString) × ReadableBits row form v (unpacked octets) rest
 unfolding readOctets
 per-reads row form octets v e = go (readOctets row form octets) refl e
   where
-    go : (g : Found Bool Value) → readOctets row form octets ≡ g → ofBits g ≡ some v → (rest : BitString) × Readable row form v (unpacked octets) rest
+    go : (g : Found Bool Value) → readOctets row form octets ≡ g → ofBits g ≡ some v → (rest : BitString) × ReadableBits row form v (unpacked octets) rest
     go (found w rest) r e = let q : w ≡ v = cc in (rest, reads-only row form v (unpacked octets) rest (rw (← q) r))
     go nothing r e = absurd (let z : _≡_ {A = ℕ} 0 1 = cc in omega arith)
 
-pub per-reads-all : (row : YearRow) (form : Form) (octets : List ℕ) (v : Value) (rest : BitString) → Readable row form v (unpacked octets) rest
+pub per-reads-all : (row : YearRow) (form : Form) (octets : List ℕ) (v : Value) (rest : BitString) → ReadableBits row form v (unpacked octets) rest
     → ofBits (readOctets row form octets) ≡ some v
 unfolding readOctets
 per-reads-all row form octets v rest r = ap ofBits (reads-all row form v (unpacked octets) rest r)
@@ -85,20 +85,20 @@ bits-read (found v rest) = refl
 bits-read nothing = refl
 
 -- The encoder's answer is that of an admission.
-pub per-admitted : (t : Ty) (text : List ℕ) → perEncoded t text ≡ answerOf encodingOf countOf (rowOf t) (admitted t text)
-per-admitted = encoded-admitted rowOf encodingOf countOf bitsGiven
+pub per-admitted : (t : Ty) (text : List ℕ) → perEncoded t text ≡ answerOf encodingOf countOf (yearRowOf t) (admitted t text)
+per-admitted = encoded-admitted yearRowOf encodingOf countOf bitsGiven
 
 -- What is judged of a value, as the code has it.
 pub per-judged-as : (t : Ty) (v : Value) (answer : Answer) → judgedAs per t v answer ≡ answerWith answer (judged t v)
-per-judged-as = judged-as rowOf encodingOf countOf bitsGiven
+per-judged-as = judged-as yearRowOf encodingOf countOf bitsGiven
 
 -- ---- how long results are
 
 pub per-encoded-short : (t : Ty) (text result : List ℕ) (bits : Bits) → perEncoded t text ≡ done result bits → length result ≤ 16
 per-encoded-short t text result bits e =
     let x = Coding.encoded-only per t text result bits e in
-    let q : encodingOf (rowOf t) (x .0) ≡ result = let r = x .3 in cc in
-    rw (← q) (encoding-short (rowOf t) (x .0))
+    let q : encodingOf (yearRowOf t) (x .0) ≡ result = let r = x .3 in cc in
+    rw (← q) (encoding-short (yearRowOf t) (x .0))
 
 pub per-decoded-short : (t : Ty) (octets result : List ℕ) (bits : Bits) → perDecoded t octets ≡ done result bits → length result ≤ 52
-per-decoded-short = decoded-short rowOf encodingOf countOf bitsGiven
+per-decoded-short = decoded-short yearRowOf encodingOf countOf bitsGiven

@@ -24,8 +24,8 @@ use Rattle.texts.specs.Forms.{yearOf, valueForm, formDigits}
 use Rattle.texts.specs.Dates.{putAfter, putDate}
 use Rattle.texts.specs.Times.{putClock, fraction, putFraction, putMinutes, putZone, canonical, putTime}
 use Rattle.texts.specs.Texts.{render, textOf}
-use Rattle.printing.specs.Stores.{Put}
-use Rattle.printing.specs.Canonical.{capacity, printable, lengthIn, bufferWith}
+use Rattle.printing.specs.Stores.{StoredText}
+use Rattle.printing.specs.Canonical.{textCapacity, printable, lengthIn, bufferWith}
 use Rattle.texts.proofs.Laws.Digits.{length-put}
 use Rattle.printing.proofs.Laws.Stores.{sets-front}
 
@@ -108,7 +108,7 @@ text-length (Value.DateTime d t) h = simp length-append (omega (arith, date-leng
 -- ---- in a lent buffer
 
 module _ (v : Value) (b : List ℕ) where
-  pub can-print : formDigits (valueForm v) ≤ 9 → capacity ≤ length b → printable v b ≡ true
+  pub can-print : formDigits (valueForm v) ≤ 9 → textCapacity ≤ length b → printable v b ≡ true
   unfolding printable
   can-print h k = rw (le-leb _ _ h, le-leb _ _ k)
 
@@ -116,7 +116,7 @@ module _ (v : Value) (b : List ℕ) where
   unfolding printable
   many-digits h = rw (lt-leb _ _ h)
 
-  pub short-buffer : length b < capacity → printable v b ≡ false
+  pub short-buffer : length b < textCapacity → printable v b ≡ false
   unfolding printable
   short-buffer h = rw (lt-leb _ _ h, and-false)
 
@@ -124,7 +124,7 @@ module _ (v : Value) (b : List ℕ) where
   unfolding lengthIn bufferWith
   not-printed e = (rw e, rw e)
 
-  pub printed : {m : List ℕ} {r : ℕ} → formDigits (valueForm v) ≤ 9 → capacity ≤ length b → Put b m 0 (textOf v) r → (r ≡ lengthIn v b) × (m ≡ bufferWith v b)
+  pub printed : {m : List ℕ} {r : ℕ} → formDigits (valueForm v) ≤ 9 → textCapacity ≤ length b → StoredText b m 0 (textOf v) r → (r ≡ lengthIn v b) × (m ≡ bufferWith v b)
   unfolding lengthIn bufferWith
   printed h k p =
       let l : length (textOf v) ≤ length b = omega (arith, text-length v h) in

@@ -8,7 +8,7 @@ use native.Mathlib.Omega.{arith}
 use lib.ListN.{length, length-append, drop, set}
 use lib.Seq.{sets, sets-eq, set-comm}
 use Rattle.texts.specs.Digits.{putDigits}
-use Rattle.printing.specs.Stores.{Put}
+use Rattle.printing.specs.Stores.{StoredText}
 use Rattle.texts.proofs.Laws.Digits.{length-put}
 
 -- stores at places that differ may change places
@@ -31,15 +31,15 @@ digit-first l at j k n e =
     rw (← e, sets-append, h) (sets-set l at (at + j) (48 + n % 10) (putDigits j (n / 10)) (omega arith))
 
 -- no text
-pub put-none : (l : List ℕ) (at : ℕ) → Put l l at [] at
+pub put-none : (l : List ℕ) (at : ℕ) → StoredText l l at [] at
 put-none l at = record { text = refl; end = omega arith }
 
 -- an octet, and a text after it
-pub put-octet : {l m : List ℕ} {at c r : ℕ} {t : List ℕ} → Put (set l at c) m (at + 1) t r → Put l m at (c ∷ t) r
+pub put-octet : {l m : List ℕ} {at c r : ℕ} {t : List ℕ} → StoredText (set l at c) m (at + 1) t r → StoredText l m at (c ∷ t) r
 put-octet h = record { text = rw add-one at (h .text); end = h .end ∙ omega arith }
 
 -- one text after another
-pub put-then : {l m n : List ℕ} {at p r : ℕ} {t u : List ℕ} → Put l m at t p → Put m n p u r → Put l n at (t ++ u) r
+pub put-then : {l m n : List ℕ} {at p r : ℕ} {t u : List ℕ} → StoredText l m at t p → StoredText m n p u r → StoredText l n at (t ++ u) r
 put-then h k =
     record {
       text = rw sets-append (k .text ∙ rw (h .text, h .end));
@@ -47,7 +47,7 @@ put-then h k =
     }
 
 -- what is left of two texts when the first one is stored
-pub put-rest : {l m n : List ℕ} {at p r : ℕ} {t u : List ℕ} → Put l m at t p → Put l n at (t ++ u) r → Put m n p u r
+pub put-rest : {l m n : List ℕ} {at p r : ℕ} {t u : List ℕ} → StoredText l m at t p → StoredText l n at (t ++ u) r → StoredText m n p u r
 put-rest h k =
     record {
       text = k .text ∙ rw (sets-append, h .text, h .end);

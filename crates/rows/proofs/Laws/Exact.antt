@@ -18,13 +18,13 @@ use Rattle.rows.specs.declared.YearRow.{YearRow}
 use Rattle.rows.specs.Fields.{fieldsOf}
 use Rattle.rows.specs.Readings.{readValue, readOctets}
 use Rattle.rows.specs.Ranges.{carried}
-use Rattle.rows.specs.Loose.{Readable}
+use Rattle.rows.specs.Loose.{ReadableBits}
 use Rattle.rows.proofs.Laws.Rows.{over-loose, over-fields}
 use Rattle.rows.proofs.Laws.Found.{drives-only}
 
 module _ (row : YearRow) (form : Form) (v : Value) (bits rest : BitString) where
   -- Only loose spellings are read, ..
-  pub reads-only : run (readValue row form) bits ≡ found v rest → Readable row form v bits rest
+  pub reads-only : run (readValue row form) bits ≡ found v rest → ReadableBits row form v bits rest
   reads-only e =
       let w = run-only (readValue row form) bits v rest e in
       let d = drives-only row form (spelledFields (w .spelled)) v (w .drives) in
@@ -40,7 +40,7 @@ module _ (row : YearRow) (form : Form) (v : Value) (bits rest : BitString) where
       }
 
   -- .. and all of them are.
-  pub reads-all : Readable row form v bits rest → run (readValue row form) bits ≡ found v rest
+  pub reads-all : ReadableBits row form v bits rest → run (readValue row form) bits ≡ found v rest
   reads-all r =
       let d = over-loose (r .other) (r .long) row v (r .inRange) in
       simp (r .stood, ← (r .formed)) (run-spelled (readValue row (valueForm v)) (r .spelled) rest v (r .well) (simp (r .fields) d))
@@ -59,7 +59,3 @@ module _ (row : YearRow) (v : Value) (h : carried v ≡ true) where
 -- A value that is read has the form.
 pub bits-form : (row : YearRow) (form : Form) (bits rest : BitString) (v : Value) → run (readValue row form) bits ≡ found v rest → valueForm v ≡ form
 bits-form row form bits rest v e = reads-only row form v bits rest e .formed
-
-pub octets-form : (row : YearRow) (form : Form) (s : List ℕ) (v : Value) (rest : BitString) → readOctets row form s ≡ found v rest → valueForm v ≡ form
-unfolding readOctets
-octets-form row form s v rest e = bits-form row form (unpacked s) rest v e

@@ -87,11 +87,11 @@ time-most time =
     simp count-append (omega arith)
 
 -- Of them 51 are the date's, 17 the clock's, 41 the fraction's and 12 the difference's.
-pub longest : (row : YearRow) (v : Value) → bitCount (fieldsOf row v) ≤ 121
+pub most-bits : (row : YearRow) (v : Value) → bitCount (fieldsOf row v) ≤ 121
 unfolding fieldsOf
-longest row (Value.Date d) = let h = date-most row d in omega arith
-longest row (Value.Time t) = let h = time-most t in omega arith
-longest row (Value.DateTime d t) =
+most-bits row (Value.Date d) = let h = date-most row d in omega arith
+most-bits row (Value.Time t) = let h = time-most t in omega arith
+most-bits row (Value.DateTime d t) =
     let h = date-most row d in
     let g = time-most t in
     simp count-append (omega arith)

@@ -7,7 +7,7 @@ use native.Mathlib.Omega.{arith}
 use lib.ListN.{length}
 use borrow.Author.Tests.{leb-true}
 use Rattle.lists.specs.Octets.{bytes, eqList}
-use Rattle.types.specs.Types.{listed, DATE, TIME-OF-DAY, DATE-TIME, everyYear, dated, timed, placed, restricted, limitedTo, noLimits, limitsOf, someYear, fewDigits, wellParts, wellFormed}
+use Rattle.types.specs.Types.{listed, DATE, TIME-OF-DAY, DATE-TIME, everyYear, hasDate, hasTime, placed, restricted, limitedTo, noLimits, limitsOf, someYear, fewDigits, wellParts, wellFormed}
 use Rattle.settings.specs.TypeTexts.{allOf, joined, typeOf}
 use Rattle.settings.specs.Written.{YearSetting, basic, dateWords, timeWords, dateTimeWords, namedYears, listsFor, joinWith, typeText, Arranged, end, more}
 use Rattle.texts.specs.declared.forms.DateForm.{DateForm}
@@ -67,7 +67,7 @@ settings-read limits (Parts.DateTime d t) h r =
     ∙ date-time-joined limits d t (p .0)
 
 -- A type's own limits have their place in it, and give it.
-limits-placed : (p : Parts) → placed (limitsOf p) (dated p) (timed p) ≡ true
+limits-placed : (p : Parts) → placed (limitsOf p) (hasDate p) (hasTime p) ≡ true
 unfolding placed
 limits-placed (Parts.Date d) = rw (or-true (everyYear (d .window)))
 limits-placed (Parts.Time t) = or-true (t .hour24)
@@ -91,15 +91,9 @@ complete t h n r =
     let p : (wellParts (t .parts) ≡ true) × _ = and-eq-true-iff _ _ .0 h in
     settings-read (limitsOf (t .parts)) (t .parts) (p .0) r ∙ own-limits (t .parts) ∙ rw (← n)
 
--- In particular, a type without limits is read without limits, ..
-pub complete-unlimited : (t : «Type») → wellFormed t ≡ true → t .name ≡ Name.Listed → limitsOf (t .parts) ≡ noLimits →
-    {wss : List (List (List ℕ))} → Arranged wss (listsFor (t .parts)) →
-    typeOf noLimits (typeText wss) ≡ TypeRead.«Type» t
-complete-unlimited t h n l r = rw (← l) (complete t h n r)
-
 -- .. and limits that have their place give the type under them.
 pub complete-limited : (limits : Limits) (t : «Type») → wellFormed t ≡ true →
-    placed limits (dated (t .parts)) (timed (t .parts)) ≡ true → {wss : List (List (List ℕ))} →
+    placed limits (hasDate (t .parts)) (hasTime (t .parts)) ≡ true → {wss : List (List (List ℕ))} →
     Arranged wss (listsFor (t .parts)) →
     typeOf limits (typeText wss) ≡ TypeRead.«Type» (listed (restricted limits (t .parts)))
 unfolding wellFormed limitedTo
@@ -120,7 +114,7 @@ relisted TypeRead.NoRow = TypeRead.NoRow
 
 limited-relisted : (limits : Limits) (t : «Type») → limitedTo limits (listed (t .parts)) ≡ relisted (limitedTo limits t)
 unfolding limitedTo
-limited-relisted limits t = go (placed limits (dated (t .parts)) (timed (t .parts))) where
+limited-relisted limits t = go (placed limits (hasDate (t .parts)) (hasTime (t .parts))) where
   go : (k : Bool) →
       cond k (TypeRead.«Type» (listed (restricted limits (t .parts)))) TypeRead.Unreadable
       ≡ relisted (cond k (TypeRead.«Type» (record { name = t .name; parts = restricted limits (t .parts) })) TypeRead.Unreadable)

@@ -9,9 +9,9 @@ use lib.ListN.{length, getD, set, take, length-set}
 use lib.Seq.{getD-set-same, getD-set-other}
 use borrow.Author.Tests.{leb-true, le-leb, eqb-true, eqb-false, ne-eqb, not-true}
 use Rattle.lists.specs.Octets.{bytes, eqList}
-use Rattle.types.specs.Types.{DATE, TIME-OF-DAY, DATE-TIME, dated, timed, placed, restricted, limitedTo, someYear, wellParts, ownSettings, wellFormed}
-use Rattle.lists.specs.Words.{placeIn, yearWords, clockWords, fractionWords, withDigits, fractionNumber, orElse, pairOf}
-use Rattle.lists.specs.Lists.{splitOn, settings, noneYet, refused, addPair, addPairs, basicIn, dateIn, yearIn, timeIn, zoneIn, datedList, timedList, presentIf, complete, completed, listOf}
+use Rattle.types.specs.Types.{DATE, TIME-OF-DAY, DATE-TIME, hasDate, hasTime, placed, restricted, limitedTo, someYear, wellParts, ownSettings, wellFormed}
+use Rattle.lists.specs.Words.{placeIn, yearWords, clockWords, fractionWords, withDigits, fractionNumber, firstNumber, pairOf}
+use Rattle.lists.specs.Lists.{splitOn, settings, noneYet, refusedList, addPair, addPairs, basicIn, dateIn, yearIn, timeIn, zoneIn, datedList, timedList, presentIf, complete, completed, listOf}
 use Rattle.settings.specs.TypeTexts.{listsOf, allOf, usable, distinct, oneRow, member, yearsOf, timeAt, listType, joined, typeOf}
 use Rattle.types.specs.declared.types.Years.{Years}
 use Rattle.types.specs.declared.types.Parts.{Parts}
@@ -55,7 +55,7 @@ pair-in-range l =
     (record { year = λ e. place-in yearWords l refl; time = λ e. absurd (omega arith) })
     (record { year = λ e. absurd (omega arith); time = λ e. time-le })
     (λ n. record { year = λ e. absurd (omega arith); time = λ e. absurd (omega arith) }) where
-      time-le : orElse (placeIn clockWords l) (fractionNumber l) ≤ 99
+      time-le : firstNumber (placeIn clockWords l) (fractionNumber l) ≤ 99
       time-le =
           let h : placeIn clockWords l ≤ 3 = place-in clockWords l refl in
           cond-le (eqb (placeIn clockWords l) 0) (fractionNumber l) (placeIn clockWords l) 99 (fraction-le l) (omega arith)
@@ -77,7 +77,7 @@ add-bounded s l b = go (s .readable && (ltb 0 (p .setting) && eqb (getD (s .numb
   p : Pair
   p = pairOf l
 
-  go : (t : Bool) → Bounded (cond t (settings (set (s .numbers) (p .property) (p .setting))) refused)
+  go : (t : Bool) → Bounded (cond t (settings (set (s .numbers) (p .property) (p .setting))) refusedList)
   go true =
       let h : p .property < length (s .numbers) = rw (b .size) (five-properties l) in
       record {
@@ -104,7 +104,7 @@ list-sound l = go (complete s) refl where
   s : Settings
   s = addPairs (settings noneYet) (splitOn 32 l)
 
-  go : (t : Bool) → complete s ≡ t → cond t s refused .readable ≡ true → Sound (cond t s refused)
+  go : (t : Bool) → complete s ≡ t → cond t s refusedList .readable ≡ true → Sound (cond t s refusedList)
   go true e h = record { all = e; bounds = pairs-bounded (settings noneYet) (splitOn 32 l) (record { size = refl; year = omega arith; time = omega arith }) }
   go false e h = absurd (false≢true h)
 
@@ -200,7 +200,7 @@ same-own limits Name.DateTime (Parts.DateTime d t) = refl
 good-limited : (limits : Limits) (t : «Type») → wellFormed t ≡ true → Good (limitedTo limits t)
 unfolding limitedTo wellFormed
 good-limited limits t h =
-    good-cond (placed limits (dated (t .parts)) (timed (t .parts))) _ _
+    good-cond (placed limits (hasDate (t .parts)) (hasTime (t .parts))) _ _
     (λ e. rw (same-parts limits (t .parts), same-own limits (t .name) (t .parts)) h)
     tt
 

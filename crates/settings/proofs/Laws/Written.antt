@@ -9,7 +9,7 @@ use lib.ListN.{length}
 use borrow.Author.Tests.{lt-ltb, ne-eqb, eq-eqb, eqb-true, eqb-false, le-leb, not-true}
 use Rattle.lists.specs.Octets.{bytes, eqList}
 use Rattle.types.specs.Numbers.{dateNumber, dateAt, clockNumber, clockAt, zoneNumber, zoneAt}
-use Rattle.types.specs.Types.{unlimitedDate, unlimitedTime, listed, dated, timed, placed, limitedTo, someYear}
+use Rattle.types.specs.Types.{unlimitedDate, unlimitedTime, listed, hasDate, hasTime, placed, limitedTo, someYear}
 use Rattle.lists.specs.Words.{placeFrom, fractionNumber, pair, pairOf}
 use Rattle.lists.specs.Lists.{settings, noneYet, addPair, addPairs, datedList, timedList, complete, completed, listOf}
 use Rattle.settings.specs.TypeTexts.{listsOf, sameButYear, yearFamily, oneRow, equalLists, allOf, distinct, usable, member, yearsOf, timeAt, listType, joined, typeOf}
@@ -117,7 +117,7 @@ time-word c n k = go (eqb n 0) refl where
       let z : (48 + n - 48) * 10 + clockNumber c ≡ timeCode c n = omega arith in
       fraction-pair c n (omega arith) k ∙ ap (pair 3) z
 
-time-back : (t : TimeForm) → timeAt (timeCode (t .clock) (t .digits)) (zoneNumber (t .zone)) ≡ t
+pub time-back : (t : TimeForm) → timeAt (timeCode (t .clock) (t .digits)) (zoneNumber (t .zone)) ≡ t
 unfolding timeAt
 time-back t =
     let p = clock-setting (t .clock) in
@@ -399,7 +399,7 @@ twice false r = refl
 
 -- Limits take the place of those that a type had, and may be tested twice.
 limited-again : (limits : Limits) (p : Parts) →
-    whereSo (placed limits (dated p) (timed p)) (limitedTo limits (listed (unlimited p))) ≡ limitedTo limits (listed p)
+    whereSo (placed limits (hasDate p) (hasTime p)) (limitedTo limits (listed (unlimited p))) ≡ limitedTo limits (listed p)
 unfolding limitedTo
 limited-again limits (Parts.Date d) = twice (placed limits true false) _
 limited-again limits (Parts.Time t) = twice (placed limits false true) _

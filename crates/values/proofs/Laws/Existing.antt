@@ -15,7 +15,7 @@ use Rattle.calendar.specs.declared.dates.Date.{Date}
 use Rattle.answers.specs.Refusals.{numberOf}
 use Rattle.answers.specs.declared.refusals.Refusal.{Refusal}
 use Rattle.printing.proofs.Laws.Canonical.{can-print, text-front, text-length, text-size}
-use Rattle.printing.specs.Canonical.{bufferWith, capacity, lengthIn, printable}
+use Rattle.printing.specs.Canonical.{bufferWith, textCapacity, lengthIn, printable}
 use Rattle.types.specs.Types.{formOf, formOfParts, wellFormed}
 use Rattle.types.specs.declared.types.DateType.{DateType}
 use Rattle.types.specs.declared.types.Parts.{Parts}
@@ -26,7 +26,7 @@ use Rattle.texts.proofs.Laws.Texts.{read-render, render-read}
 use Rattle.texts.specs.Forms.{formDigits, valueForm, yearOf}
 use Rattle.texts.specs.Texts.{readOf, render, shownIn, textOf}
 use Rattle.texts.specs.Times.{canonical}
-use Rattle.texts.specs.Years.{longest}
+use Rattle.texts.specs.Years.{longestYear}
 use Rattle.texts.specs.declared.forms.Form.{Form}
 use Rattle.texts.specs.declared.texts.TextRead.{TextRead}
 use Rattle.texts.specs.declared.values.Clock.{Clock}
@@ -100,20 +100,20 @@ one-text v w e f x y = one-value 20 (omega arith) (omega arith) canonical canoni
 
 -- The canonical text of an existing value, read at any other form, gives nothing.
 pub no-other-form : (v : Value) → existsValue v ≡ true → ShortYear 20 v → (f : Form) → (valueForm v ≡ f → ⊥) → readOf f (textOf v) ≡ TextRead.NotOfForm
-no-other-form v e y f = other-form 20 (omega arith) longest (omega arith) (omega arith) (omega arith) canonical v f (exists-fits 20 v e y)
+no-other-form v e y f = other-form 20 (omega arith) longestYear (omega arith) (omega arith) (omega arith) canonical v f (exists-fits 20 v e y)
 
 -- ---- texts of what a type holds
 
-five-digits : (y : ℤ) → between (negsuc 99998) (pos 99999) y ≡ true → natAbs y < 10 ^ longest
+five-digits : (y : ℤ) → between (negsuc 99998) (pos 99999) y ≡ true → natAbs y < 10 ^ longestYear
 unfolding between
 five-digits (pos n) e = omega (arith, leb-true n 99999 (both true (leb n 99999) e .1))
 five-digits (negsuc k) e = omega (arith, leb-true k 99998 (both (leb k 99998) true e .0))
 
-date-short : (t : DateType) (d : Date) → admitsDate t d ≡ true → YearFits longest (yearOf d)
+pub date-short : (t : DateType) (d : Date) → admitsDate t d ≡ true → YearFits longestYear (yearOf d)
 unfolding YearFits
 date-short t d e = let p = date-admitted t d e in five-digits _ (years-range (t .years) _ (p .0))
 
-admits-short : (p : Parts) (v : Value) → valueForm v ≡ formOfParts p → admits p v ≡ true → ShortYear longest v
+admits-short : (p : Parts) (v : Value) → valueForm v ≡ formOfParts p → admits p v ≡ true → ShortYear longestYear v
 admits-short (Parts.Date t) (Value.Date d) f e = date-short t d e
 admits-short (Parts.Date t) (Value.Time u) f e = tt
 admits-short (Parts.Date t) (Value.DateTime d u) f e = date-short t d e
@@ -125,17 +125,17 @@ admits-short (Parts.DateTime t u) (Value.Time x) f e = tt
 admits-short (Parts.DateTime t u) (Value.DateTime d x) f e = date-short t d (both (admitsDate t d) (admitsTime u x) e .0)
 
 module _ (t : Ty) (v : Value) (h : holdsOf t v ≡ true) where
-  pub held-fits : Fits longest v
+  pub held-fits : Fits longestYear v
   held-fits =
       let p = held t v h in
       let q = in-type t v (p .1) in
-      exists-fits longest v (p .0) (admits-short (t .parts) v (q .0) (q .1))
+      exists-fits longestYear v (p .0) (admits-short (t .parts) v (q .0) (q .1))
 
   -- Any text of a value that the type holds is read at the type's form as that value.
   pub held-read : (s : Spelling) → readOf (formOf t) (render s v) ≡ TextRead.Value v (shownIn s v)
   held-read s =
       let q = in-type t v (held t v h .1) in
-      rw (← q .0) (read-render longest (omega arith) (omega arith) s v held-fits)
+      rw (← q .0) (read-render longestYear (omega arith) (omega arith) s v held-fits)
 
   -- And the type admits it, in every spelling.
   pub held-admitted : wellFormed t ≡ true → (s : Spelling) → admitted t (render s v) ≡ Admission.Value v
@@ -168,7 +168,7 @@ admitted-held t l v = go (wellFormed t) refl (readOf (formOf t) l) refl where
       (wellFormed t ≡ true) × (holdsOf t v ≡ true) × (s : Spelling) × (l ≡ render s v)
   go true x (TextRead.Value w s) y g =
       let p = given-held t w v g in
-      let q = render-read longest (omega arith) (omega arith) (formOf t) l w s y in
+      let q = render-read longestYear (omega arith) (omega arith) (formOf t) l w s y in
       (x, p .0, s, q .0 ∙ ap (render s) (p .1))
   go true x TextRead.NotOfForm y g = absurd (let z : _≡_ {A = ℕ} 0 1 = cc in omega arith)
   go false x r y g = absurd (let z : _≡_ {A = ℕ} 0 1 = cc in omega arith)
@@ -189,7 +189,7 @@ pub printed-text : (v : Value) → existsValue v ≡ true → printed v ≡ text
 unfolding printed
 printed-text v e = simp (le-leb (formDigits (valueForm v)) 9 (exists-digits v e))
 
-module _ (v : Value) (b : List ℕ) (k : capacity ≤ length b) {n : ℕ} (x : n ≡ lengthIn v b) where
+module _ (v : Value) (b : List ℕ) (k : textCapacity ≤ length b) {n : ℕ} (x : n ≡ lengthIn v b) where
   pub text-short : n ≤ 52
   unfolding lengthIn printable
   text-short = go (leb (formDigits (valueForm v)) 9) refl where

@@ -6,7 +6,7 @@ use lib.Seq.{length-take-le}
 use borrow.Author.Tests.{not-false, not-true}
 use Rattle.answers.specs.Outcomes.{outcomeOf, roomOf}
 use Rattle.kinds.specs.Coding.{compared}
-use Rattle.printing.specs.Canonical.{capacity}
+use Rattle.printing.specs.Canonical.{textCapacity}
 use Rattle.texts.specs.Texts.{textOf}
 use Rattle.values.proofs.Laws.Existing.{printed-text, text-short, text-taken}
 use Rattle.der.proofs.Laws.Der.{own-element}
@@ -21,22 +21,22 @@ text-into-requires : tie.Need-text-into-requires
 text-into-requires c κs = search needs
 
 array-share-prefix-text : tie.Need-array-share-prefix-text
-array-share-prefix-text c = let w : length (c .before .text-into .last .1 .0) ≡ capacity = search needs in omega (arith, text-short _ _ (omega arith) (c .before .text-into .ensures .0))
+array-share-prefix-text c = let w : length (c .before .text-into .last .1 .0) ≡ textCapacity = search needs in omega (arith, text-short _ _ (omega arith) (c .before .text-into .ensures .0))
 
 slice-aggregate-write-element : tie.Need-slice-aggregate-write-element
-slice-aggregate-write-element c = sym (length-take-le _ _ (let w : length (c .before .before .text-into .last .1 .0) ≡ capacity = search needs in omega (arith, text-short _ _ (omega arith) (c .before .before .text-into .ensures .0))))
+slice-aggregate-write-element c = sym (length-take-le _ _ (let w : length (c .before .before .text-into .last .1 .0) ≡ textCapacity = search needs in omega (arith, text-short _ _ (omega arith) (c .before .before .text-into .ensures .0))))
 
 slice-aggregate-write-element-2 : tie.Need-slice-aggregate-write-element-2
 slice-aggregate-write-element-2 c = search needs
 
 write-element-requires : tie.Need-write-element-requires
-write-element-requires c κs = let w : length (c .before .before .before .text-into .last .1 .0) ≡ capacity = search needs in let k = text-short _ _ (omega arith) (c .before .before .before .text-into .ensures .0) in let e = length-take-le (c .before .before .before .text-into .result) (c .before .before .before .text-into .last .1 .0) (omega arith) in omega arith
+write-element-requires c κs = let w : length (c .before .before .before .text-into .last .1 .0) ≡ textCapacity = search needs in let k = text-short _ _ (omega arith) (c .before .before .before .text-into .ensures .0) in let e = length-take-le (c .before .before .before .text-into .result) (c .before .before .before .text-into .last .1 .0) (omega arith) in omega arith
 
 array-share-prefix-own : tie.Need-array-share-prefix-own
-array-share-prefix-own c = let q : take (c .before .before .before .before .before .text-into .result) (c .before .before .before .before .before .text-into .last .1 .0) ≡ textOf (c .before .before .before .before .before .before .before .before .before .args .value) = text-taken _ _ (omega arith) (c .before .before .before .before .before .text-into .ensures .0) (c .before .before .before .before .before .text-into .ensures .1) ∙ printed-text (c .before .before .before .before .before .before .before .before .before .args .value) (c .before .before .before .before .before .before .before .before .before .pre) in let e = own-element (c .before .before .before .before .before .before .before .before .before .args .t .name) (c .before .before .before .before .before .before .before .before .before .args .value) _ _ _ _ (c .before .before .before .before .before .before .before .before .before .pre) q (omega arith) (c .before .write-element .ensures .0) (c .before .write-element .ensures .1) in let w : length (c .before .write-element .last .1 .1 .0) ≡ capacity = search needs in omega arith
+array-share-prefix-own c = let q : take (c .before .before .before .before .before .text-into .result) (c .before .before .before .before .before .text-into .last .1 .0) ≡ textOf (c .before .before .before .before .before .before .before .before .before .args .value) = text-taken _ _ (omega arith) (c .before .before .before .before .before .text-into .ensures .0) (c .before .before .before .before .before .text-into .ensures .1) ∙ printed-text (c .before .before .before .before .before .before .before .before .before .args .value) (c .before .before .before .before .before .before .before .before .before .pre) in let e = own-element (c .before .before .before .before .before .before .before .before .before .args .t .name) (c .before .before .before .before .before .before .before .before .before .args .value) _ _ _ _ (c .before .before .before .before .before .before .before .before .before .pre) q (omega arith) (c .before .write-element .ensures .0) (c .before .write-element .ensures .1) in let w : length (c .before .write-element .last .1 .1 .0) ≡ textCapacity = search needs in omega arith
 
 slice-aggregate-same : tie.Need-slice-aggregate-same
-slice-aggregate-same c = sym (length-take-le _ _ (let q : take (c .before .before .before .before .before .before .text-into .result) (c .before .before .before .before .before .before .text-into .last .1 .0) ≡ textOf (c .before .before .before .before .before .before .before .before .before .before .args .value) = text-taken _ _ (omega arith) (c .before .before .before .before .before .before .text-into .ensures .0) (c .before .before .before .before .before .before .text-into .ensures .1) ∙ printed-text (c .before .before .before .before .before .before .before .before .before .before .args .value) (c .before .before .before .before .before .before .before .before .before .before .pre) in let e = own-element (c .before .before .before .before .before .before .before .before .before .before .args .t .name) (c .before .before .before .before .before .before .before .before .before .before .args .value) _ _ _ _ (c .before .before .before .before .before .before .before .before .before .before .pre) q (omega arith) (c .before .before .write-element .ensures .0) (c .before .before .write-element .ensures .1) in let w : length (c .before .before .write-element .last .1 .1 .0) ≡ capacity = search needs in omega arith))
+slice-aggregate-same c = sym (length-take-le _ _ (let q : take (c .before .before .before .before .before .before .text-into .result) (c .before .before .before .before .before .before .text-into .last .1 .0) ≡ textOf (c .before .before .before .before .before .before .before .before .before .before .args .value) = text-taken _ _ (omega arith) (c .before .before .before .before .before .before .text-into .ensures .0) (c .before .before .before .before .before .before .text-into .ensures .1) ∙ printed-text (c .before .before .before .before .before .before .before .before .before .before .args .value) (c .before .before .before .before .before .before .before .before .before .before .pre) in let e = own-element (c .before .before .before .before .before .before .before .before .before .before .args .t .name) (c .before .before .before .before .before .before .before .before .before .before .args .value) _ _ _ _ (c .before .before .before .before .before .before .before .before .before .before .pre) q (omega arith) (c .before .before .write-element .ensures .0) (c .before .before .write-element .ensures .1) in let w : length (c .before .before .write-element .last .1 .1 .0) ≡ textCapacity = search needs in omega arith))
 
 same-requires : tie.Need-same-requires
 same-requires c κs = search needs
@@ -49,10 +49,10 @@ unfolding compared outcomeOf roomOf
 returns c = let q : take (c .before .before .before .before .before .before .before .before .before .text-into .result) (c .before .before .before .before .before .before .before .before .before .text-into .last .1 .0) ≡ textOf (c .before .before .before .before .before .before .before .before .before .before .before .before .before .args .value) = text-taken _ _ (omega arith) (c .before .before .before .before .before .before .before .before .before .text-into .ensures .0) (c .before .before .before .before .before .before .before .before .before .text-into .ensures .1) ∙ printed-text (c .before .before .before .before .before .before .before .before .before .before .before .before .before .args .value) (c .before .before .before .before .before .before .before .before .before .before .before .before .before .pre) in let e = own-element (c .before .before .before .before .before .before .before .before .before .before .before .before .before .args .t .name) (c .before .before .before .before .before .before .before .before .before .before .before .before .before .args .value) _ _ _ _ (c .before .before .before .before .before .before .before .before .before .before .before .before .before .pre) q (omega arith) (c .before .before .before .before .before .write-element .ensures .0) (c .before .before .before .before .before .write-element .ensures .1) in rw (← e .1, sym (c .before .before .same .ensures) ∙ not-true _ (c .before .if1 .taken)) (c .refused .ensures, refl)
 
 array-share-prefix-text-2 : tie.Need-array-share-prefix-text-2
-array-share-prefix-text-2 c = let w : length (c .before .before .before .before .before .before .before .before .text-into .last .1 .0) ≡ capacity = search needs in omega (arith, text-short _ _ (omega arith) (c .before .before .before .before .before .before .before .before .text-into .ensures .0))
+array-share-prefix-text-2 c = let w : length (c .before .before .before .before .before .before .before .before .text-into .last .1 .0) ≡ textCapacity = search needs in omega (arith, text-short _ _ (omega arith) (c .before .before .before .before .before .before .before .before .text-into .ensures .0))
 
 slice-aggregate-deliver : tie.Need-slice-aggregate-deliver
-slice-aggregate-deliver c = sym (length-take-le _ _ (let w : length (c .before .before .before .before .before .before .before .before .before .text-into .last .1 .0) ≡ capacity = search needs in omega (arith, text-short _ _ (omega arith) (c .before .before .before .before .before .before .before .before .before .text-into .ensures .0))))
+slice-aggregate-deliver c = sym (length-take-le _ _ (let w : length (c .before .before .before .before .before .before .before .before .before .text-into .last .1 .0) ≡ textCapacity = search needs in omega (arith, text-short _ _ (omega arith) (c .before .before .before .before .before .before .before .before .before .text-into .ensures .0))))
 
 deliver-requires : tie.Need-deliver-requires
 deliver-requires c κs = search needs

@@ -5,7 +5,7 @@ use Prim.Native.Nat.{_+_, _-_, _≤_}
 use native.Mathlib.Omega.{arith}
 use lib.ListN.{drop, getD, length}
 use lib.Seq.{sets}
-use Rattle.printing.specs.Stores.{Put}
+use Rattle.printing.specs.Stores.{StoredText}
 use Rattle.printing.proofs.Laws.Stores.{put-rest}
 use Rattle.der.specs.Elements.{contentsOf}
 use Rattle.der.proofs.Laws.Contents.{contents-count, contents-end, contents-step}
@@ -13,7 +13,7 @@ use Rattle.der.proofs.elements.put_contents.Statement.{statement}
 use Rattle.der.proofs.elements.put_contents.Tie as tie
 
 abbrev Inv-loop : tie.InvT-loop
-Inv-loop room₀ at name text place₀ i₀ room place i = (i ≤ length text) × (length room ≡ length room₀) × Put room (sets room₀ at (contentsOf name text)) place (contentsOf name (drop i text)) (at + length (contentsOf name text))
+Inv-loop room₀ at name text place₀ i₀ room place i = (i ≤ length text) × (length room ≡ length room₀) × StoredText room (sets room₀ at (contentsOf name text)) place (contentsOf name (drop i text)) (at + length (contentsOf name text))
 
 abbrev μ-loop : tie.MeasureT-loop
 μ-loop room₀ at name text place₀ i₀ room place i = length text - i

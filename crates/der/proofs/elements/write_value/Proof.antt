@@ -3,7 +3,7 @@ use mathlib.Core.Path.{_≡_, sym}
 use native.Mathlib.Omega.{arith}
 use lib.ListN.{length, take}
 use lib.Seq.{length-take-le}
-use Rattle.printing.specs.Canonical.{capacity}
+use Rattle.printing.specs.Canonical.{textCapacity}
 use Rattle.values.proofs.Laws.Existing.{printed-text, text-short, text-taken}
 use Rattle.der.specs.Elements.{elementOf}
 use borrow.Author.Needs.{needs}
@@ -17,13 +17,13 @@ text-into-requires : tie.Need-text-into-requires
 text-into-requires c κs = tt
 
 array-share-prefix-text : tie.Need-array-share-prefix-text
-array-share-prefix-text c = let w : length (c .before .text-into .last .1 .0) ≡ capacity = search needs in omega (arith, text-short _ _ (omega arith) (c .before .text-into .ensures .0))
+array-share-prefix-text c = let w : length (c .before .text-into .last .1 .0) ≡ textCapacity = search needs in omega (arith, text-short _ _ (omega arith) (c .before .text-into .ensures .0))
 
 slice-aggregate-write-element : tie.Need-slice-aggregate-write-element
-slice-aggregate-write-element c = sym (length-take-le _ _ (let w : length (c .before .before .text-into .last .1 .0) ≡ capacity = search needs in omega (arith, text-short _ _ (omega arith) (c .before .before .text-into .ensures .0))))
+slice-aggregate-write-element c = sym (length-take-le _ _ (let w : length (c .before .before .text-into .last .1 .0) ≡ textCapacity = search needs in omega (arith, text-short _ _ (omega arith) (c .before .before .text-into .ensures .0))))
 
 write-element-requires : tie.Need-write-element-requires
-write-element-requires c κs = let w : length (c .before .before .before .text-into .last .1 .0) ≡ capacity = search needs in let k = text-short _ _ (omega arith) (c .before .before .before .text-into .ensures .0) in let e = length-take-le (c .before .before .before .text-into .result) (c .before .before .before .text-into .last .1 .0) (omega arith) in omega arith
+write-element-requires c κs = let w : length (c .before .before .before .text-into .last .1 .0) ≡ textCapacity = search needs in let k = text-short _ _ (omega arith) (c .before .before .before .text-into .ensures .0) in let e = length-take-le (c .before .before .before .text-into .result) (c .before .before .before .text-into .last .1 .0) (omega arith) in omega arith
 
 same-length : tie.Need-same-length
 same-length c = search needs

@@ -3,7 +3,7 @@ use mathlib.Core.Path.{_≡_, sym}
 use native.Mathlib.Omega.{arith}
 use lib.ListN.{length}
 use lib.Seq.{length-take-le}
-use Rattle.printing.specs.Canonical.{capacity}
+use Rattle.printing.specs.Canonical.{textCapacity}
 use Rattle.values.proofs.Laws.Existing.{text-short, text-taken}
 use borrow.Author.Needs.{needs}
 use Rattle.values.proofs.written.deliver_text.Statement.{statement}
@@ -16,10 +16,10 @@ text-into-requires : tie.Need-text-into-requires
 text-into-requires c κs = search needs
 
 array-share-prefix-buffer : tie.Need-array-share-prefix-buffer
-array-share-prefix-buffer c = let w : length (c .before .text-into .last .1 .0) ≡ capacity = search needs in omega (arith, text-short _ _ (omega arith) (c .before .text-into .ensures .0))
+array-share-prefix-buffer c = let w : length (c .before .text-into .last .1 .0) ≡ textCapacity = search needs in omega (arith, text-short _ _ (omega arith) (c .before .text-into .ensures .0))
 
 slice-aggregate-deliver : tie.Need-slice-aggregate-deliver
-slice-aggregate-deliver c = sym (length-take-le _ _ (let w : length (c .before .before .text-into .last .1 .0) ≡ capacity = search needs in omega (arith, text-short _ _ (omega arith) (c .before .before .text-into .ensures .0))))
+slice-aggregate-deliver c = sym (length-take-le _ _ (let w : length (c .before .before .text-into .last .1 .0) ≡ textCapacity = search needs in omega (arith, text-short _ _ (omega arith) (c .before .before .text-into .ensures .0))))
 
 deliver-requires : tie.Need-deliver-requires
 deliver-requires c κs = search needs
