@@ -2,7 +2,8 @@
 
 `LIMITS;TYPE;TEXT` asks for the number of "The seven numbers" and, after 0, the canonical text. LIMITS is one octet of
 the menu below; TYPE ends at the second semicolon. `=;TYPE;TYPE` asks whether two types "select the same rows", and for
-their numbers of fraction digits. Any other line has the reply `?`.
+their numbers of fraction digits; `=AB;TYPE;TYPE` asks it of types with limits, where A and B are octets of the menu, for
+the first and for the second type. Any other line has the reply `?`.
 """
 
 import itertools
@@ -637,16 +638,59 @@ def other_lines():
     )
 
 
+def last_second():
+    """A second 60 under the last limits of the menu."""
+    yield line(b"9", b"DATE-TIME", b"2009-12-31T23:59:60")
+
+
+def limited_rows():
+    """Lines that compare two types under each pair of limits: "restrictions don't count", where they have their place."""
+    years = (b"Proleptic", b"Basic")
+    pairs = (
+        (b"DATE", date_type(b"YMD", *years)),
+        (date_type(b"YW", b"Negative", b"L5"), date_type(b"YW", *years)),
+        (b"TIME-OF-DAY", time_type(b"HMS", b"L")),
+        (time_type(b"HMF3", b"LD"), time_type(b"HMF7", b"LD")),
+        (b"DATE-TIME", date_time_type(b"YMD", years, b"HMS", b"L")),
+        (date_time_type(b"YD", (b"Basic",), b"HF2", b"Z"), date_time_type(b"YD", (b"Basic",), b"HF2", b"L")),
+        (date_time_type(b"Y", (b"L5",), b"H", b"L"), date_type(b"Y", b"L5")),
+    )
+    for (first, second), a, b in itertools.product(pairs, sorted(MENU), sorted(MENU)):
+        yield line(b"=" + a + b, first, second)
+
+
+def refused_rows():
+    """Lines that compare two types of which one or both are refused, by themselves or for their limits."""
+    y, hms = date_type(b"Y", b"Basic"), time_type(b"HMS", b"L")
+    types = NAMES + (y + b"|" + hms, date_type(b"Y", b"Basic", b"L5"), y + b"|" + y, b"")
+    for limits, first, second in itertools.product((b"=09", b"=10", b"=18", b"=81"), types, types):
+        yield line(limits, first, second)
+
+
+def fields_of_rows():
+    """First fields that are `=` and two octets of the menu, or nearly so, and lines with semicolons too few or more."""
+    others = TYPE_OCTETS + [b"/", b":", b";"]
+    for field in itertools.chain(deletions(b"=08"), replacements(b"=08", others), insertions(b"=08", others)):
+        yield line(field, b"DATE-TIME", b"DATE-TIME")
+    yield from (
+        b"=00", b"=00;", b"=00;DATE", b"=00DATE;DATE", b"=00;DATE;DATE;", b"=00;DATE;DATE;DATE", b"=00;;DATE", b"=00;DATE;",
+        b"=00;;", b"=00;;;", b"=00; DATE;DATE", b"=00;DATE;DATE\r", b"=1;DATE;DATE", b"=123;DATE;DATE", b"=a0;DATE;DATE",
+        b"=0a;DATE;DATE", b"=0;0;DATE;DATE", b"=0;;DATE;DATE", b"=;0;DATE;DATE", b"=;;;DATE;DATE", b"000;DATE;DATE",
+        b"=0000;DATE;DATE", b"=" + b"0" * 1000 + b";DATE;DATE",
+    )
+
+
 def last_line():
     """The line without a newline at its end."""
-    yield line(b"9", b"DATE-TIME", b"2009-12-31T23:59:60")
+    first, second = (date_time_type(b"YM", years, b"HF9", b"Z") for years in ((b"Basic",), (b"Proleptic",)))
+    yield line(b"=98", first, second)
 
 
 SECTIONS = (
     checked_values, good_dates, good_times, good_date_times, date_boundaries, month_boundaries, week_boundaries,
     time_boundaries, fractions_at_hour_24, differences, year_shapes, years_in_windows, cross_table, changed_texts,
     changed_types, every_octet, long_texts, long_types, limits_and_places, refused_types, pairs_of_lists, all_orders, rows,
-    other_lines, last_line,
+    other_lines, last_second, limited_rows, refused_rows, fields_of_rows, last_line,
 )
 
 
@@ -664,9 +708,9 @@ def reply_on_text(limits, type_text, text):
     return b"0 " + canonical if number == 0 else b"%d" % number
 
 
-def reply_on_rows(first, second):
+def reply_on_rows(first, second, first_limits=NO_LIMITS, second_limits=NO_LIMITS):
     """Whether two types "select the same rows", and their numbers of fraction digits; or a refusal."""
-    a, b = read_type(first), read_type(second)
+    a, b = read_type(first, first_limits), read_type(second, second_limits)
     if is_refused(a):
         return b"%d" % a
     if is_refused(b):
@@ -683,6 +727,8 @@ def reply(question):
     limits, type_text, text = parts
     if limits == b"=":
         return reply_on_rows(type_text, text)
+    if limits[:1] == b"=" and limits[1:2] in MENU and limits[2:] in MENU:
+        return reply_on_rows(type_text, text, MENU[limits[1:2]], MENU[limits[2:]])
     if limits not in MENU:
         return b"?"
     return reply_on_text(MENU[limits], type_text, text)

@@ -1,7 +1,8 @@
 // Reads lines from standard input and replies to each. A line `LIMITS;TYPE;TEXT` asks for the number of
 // the text under the type, and after 0 for the canonical text; LIMITS is one octet of a menu. A line
-// `=;TYPE;TYPE` asks whether two types select the same rows, and for their numbers of fraction digits. The reply
-// to any other line is `?`.
+// `=;TYPE;TYPE` asks whether two types select the same rows, and for their numbers of fraction digits; a line
+// `=AB;TYPE;TYPE` asks it of types with limits, where A and B are octets of the menu, for the first and for the
+// second type. The reply to any other line is `?`.
 use calendar::Year;
 use libc::STDIN_FILENO;
 use libc::STDOUT_FILENO;
@@ -164,9 +165,9 @@ fn rows_of(a: Type, b: Type) {
     write(&octets)
 }
 
-// The reply on the rows of a type and a second type's text.
-fn second_rows(a: Type, settings: &[u8]) {
-    let read = values::read_type(settings, Limits::NONE);
+// The reply on the rows of a type and a second type's text under its limits.
+fn second_rows(a: Type, limits: Limits, settings: &[u8]) {
+    let read = values::read_type(settings, limits);
     match read {
         TypeRead::Type(b) => rows_of(a, b),
         TypeRead::Unreadable => number_reply(1),
@@ -174,19 +175,43 @@ fn second_rows(a: Type, settings: &[u8]) {
     }
 }
 
-// The reply on the rows of two types' texts.
-fn rows_reply(first: &[u8], second: &[u8]) {
-    let read = values::read_type(first, Limits::NONE);
+// The reply on the rows of two types' texts, each under its limits.
+fn rows_reply(a: Limits, first: &[u8], b: Limits, second: &[u8]) {
+    let read = values::read_type(first, a);
     match read {
-        TypeRead::Type(a) => second_rows(a, second),
+        TypeRead::Type(t) => second_rows(t, b, second),
         TypeRead::Unreadable => number_reply(1),
         TypeRead::NoRow => number_reply(2),
     }
 }
 
+// The reply to a line whose first field has three octets.
+fn limited_reply(line: &[u8]) {
+    let second = semicolon(line, 4);
+    if line.len() <= second {
+        return no_question();
+    }
+    if second < 4 {
+        return no_question();
+    }
+    if line[0] != b'=' {
+        return no_question();
+    }
+    let Choice::Limits(a) = limits_of(line[1]) else {
+        return no_question();
+    };
+    let Choice::Limits(b) = limits_of(line[2]) else {
+        return no_question();
+    };
+    rows_reply(a, &line[4..second], b, &line[second + 1..])
+}
+
 // The reply to a line.
 fn reply(line: &[u8]) {
     let first = semicolon(line, 0);
+    if first == 3 {
+        return limited_reply(line);
+    }
     if first != 1 {
         return no_question();
     }
@@ -199,7 +224,12 @@ fn reply(line: &[u8]) {
     }
     let octet = line[0];
     if octet == b'=' {
-        return rows_reply(&line[2..second], &line[second + 1..]);
+        return rows_reply(
+            Limits::NONE,
+            &line[2..second],
+            Limits::NONE,
+            &line[second + 1..],
+        );
     }
     let Choice::Limits(limits) = limits_of(octet) else {
         return no_question();
