@@ -1,6 +1,6 @@
 """Compares each row of the proved tables with the independent reference: the calendar's years and dates, the
-types and their rows, the texts under types, unaligned PER, DER and the lines. Prints the first row that differs and exits
-1, or prints nothing."""
+types and their rows, the texts under types, the rows of Table 2, unaligned PER, DER and the lines. Prints the first
+row that differs and exits 1, or prints nothing."""
 
 import re
 import sys
@@ -38,6 +38,16 @@ TIMES = ROOT / "crates/values/proofs/Laws/CheckedExistence.antt"
 LOCAL = re.compile(r"^ +time \(local \(Clock\.\w+((?: \d+)+)\) (\d+) (\d+)\) (true|false) ∷", re.M)
 ZONED = re.compile(r"^ +time \((ahead|behind) (\d+) (\d+)\) (true|false) ∷", re.M)
 UTC = re.compile(r"^ +time utc (true|false) ∷", re.M)
+
+TABLE_2 = ROOT / "crates/rows/proofs/Laws/Checked.antt"
+A_DATE = r"YearRow\.(\w+) \(Date\.(\w+) \(yearAt \((\w+ \d+)\)\)((?: \d+)*)\)"
+A_TIME = r"\(Clock\.(\w+)((?: \d+)+)\) (\d+) (\d+) \(?(Zone\.\w+|(?:ahead|behind) \d+ \d+)\)?"
+DATED = re.compile(rf'^ +(date|looseDate) {A_DATE} "(\w+)" (\d+) ∷', re.M)
+TIMED = re.compile(rf'^ +(time|looseTime) {A_TIME} "(\w+)" (\d+) ∷', re.M)
+BOTH = re.compile(rf'^ +both {A_DATE} {A_TIME} "(\w+)" (\d+) ∷', re.M)
+NO_DATE = re.compile(r'^ +noDate YearRow\.(\w+) DateForm\.(\w+) "(\w*)" ∷', re.M)
+NO_TIME = re.compile(r'^ +noTime ClockForm\.(\w+) (\d+) ZoneForm\.(\w+) "(\w*)" ∷', re.M)
+YEAR_ROWS = {"Year": frozenset({"Basic", "Proleptic"}), "AnyYear": frozenset({"Negative", "L5"})}
 
 CODINGS = ROOT / "crates/codec/proofs/Laws/Checked.antt"
 VALUE = re.compile(r'^ +value "([^"]*)" "([^"]*)" (\d) "([^"]*)" (\d+) "([^"]*)" ∷', re.M)
@@ -135,6 +145,54 @@ def check_times():
         expect(TIMES, "utc", said, truth(time_exists((12,), 0, 0, "Z")))
 
 
+def row_date(form, year, fields):
+    """A date of the table of rows."""
+    return texts.Date(form, integer(year), tuple(map(int, fields.split())))
+
+
+def row_time(fields, digits, fraction, zone):
+    """A time of the table of rows."""
+    kind, *difference = zone.split()
+    if difference:
+        difference = texts.Difference(b"-" if kind == "behind" else b"+", *map(int, difference))
+    digits = texts.Fraction(int(fraction), int(digits)) if digits != "0" else None
+    return texts.Time(tuple(map(int, fields.split())), digits, "LD" if difference else kind[-1], difference or None)
+
+
+def row_type(year_row=None, form=None, clock=None, digits="0", zone=None):
+    """A type with what Table 2 looks at."""
+    time = clock + "F" if clock and digits != "0" else clock
+    return settings.Type(None, form, YEAR_ROWS.get(year_row), time, int(digits), zone, None, None, False)
+
+
+def check_row(t, value, octets, said, loose):
+    """The octets of a value with their bit count, and back; those of a loose spelling back only."""
+    octets, count = bytes.fromhex(octets), int(said)
+    written = per.write(t, value)
+    expect(TABLE_2, value, True if loose else (octets, count), written[0] != octets if loose else written)
+    bits = per.Bits(octets)
+    expect(TABLE_2, value, (value, count), (per.take_value(bits, t), bits.place))
+
+
+def check_rows():
+    """Values of each row of Table 2, loose spellings of some, and octets that give nothing."""
+    dated, timed, both, no_date, no_time = rows(TABLE_2, DATED, TIMED, BOTH, NO_DATE, NO_TIME)
+    for kind, years, form, year, fields, *coding in dated:
+        value = texts.Value(row_date(form, year, fields), None)
+        check_row(row_type(years, form), value, *coding, kind == "looseDate")
+    for kind, clock, *time, octets, count in timed:
+        value = texts.Value(None, row_time(*time))
+        check_row(row_type(None, None, clock, time[1], value.time.zone), value, octets, count, kind == "looseTime")
+    for years, form, year, fields, clock, *time, octets, count in both:
+        value = texts.Value(row_date(form, year, fields), row_time(*time))
+        check_row(row_type(years, form, clock, time[1], value.time.zone), value, octets, count, False)
+    for years, form, octets in no_date:
+        expect(TABLE_2, f"{form} {octets}", None, per.read_octets(row_type(years, form), bytes.fromhex(octets)))
+    for clock, digits, zone, octets in no_time:
+        t = row_type(None, None, clock, digits, zone)
+        expect(TABLE_2, f"{clock} {octets}", None, per.read_octets(t, bytes.fromhex(octets)))
+
+
 def check_both_ways(coding, type_text, text, number, octets, bits, canonical):
     """What an encoder makes of a text, and after 0 what the decoder makes of its octets."""
     said = (int(number), bytes.fromhex(octets), int(bits))
@@ -170,5 +228,6 @@ if __name__ == "__main__":
     check_types()
     check_texts()
     check_times()
+    check_rows()
     check_codings()
     check_lines()
