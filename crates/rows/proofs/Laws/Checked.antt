@@ -214,7 +214,21 @@ differences-checked : made differences ≡ said differences
 unfolding differences said made
 differences-checked = refl
 
--- ---- HMFn and HMSFn, in Z and LD; dates with times.
+-- ---- Dates with times.
+
+pairs : List Row
+pairs =
+    -- "Date-time: the date's bits, then the time's"
+    both YearRow.Year (Date.Y (yearAt (pos 2006))) (Clock.H 15) 0 0 Zone.L "05E0" 11 ∷
+    both YearRow.Year (Date.YM (yearAt (pos 2006)) 6) (Clock.HM 15 27) 0 0 Zone.Z "055ED8" 21 ∷
+    both YearRow.Year (Date.YD (yearAt (pos 1581)) 164) (Clock.H 15) 1 5 Zone.L "C0818B546F00A0" 51 ∷
+    both YearRow.AnyYear (Date.YW (yearAt (negsuc 128)) 24) (Clock.HM 15 27) 5 12345 Zone.Z "02FF7F5DEDC08C0E40" 66 ∷ []
+
+date-times-checked : made pairs ≡ said pairs
+unfolding pairs said made
+date-times-checked = refl
+
+-- ---- HMFn and HMSFn, in Z and LD, alone and after a date.
 
 mixed : List Row
 mixed =
@@ -223,12 +237,8 @@ mixed =
     time (Clock.HM 15 27) 4 1000 (ahead 1 0) "7B70203E8400" 42 ∷
     time (Clock.HMS 15 27 46) 3 500 (behind 9 30) "7B771F499D" 40 ∷
     time (Clock.HMS 15 27 46) 9 999999999 Zone.Z "7B77410EE6B27FC0" 58 ∷
-    -- a date with a time
-    both YearRow.Year (Date.Y (yearAt (pos 2006))) (Clock.H 15) 0 0 Zone.L "05E0" 11 ∷
-    both YearRow.Year (Date.YM (yearAt (pos 2006)) 6) (Clock.HM 15 27) 0 0 Zone.Z "055ED8" 21 ∷
+    -- a date with a time that has a difference
     both YearRow.Year (Date.YMD (yearAt (pos 2006)) 6 13) (Clock.HMS 15 27 46) 0 0 (behind 9 30) "0558F6EE99D0" 44 ∷
-    both YearRow.Year (Date.YD (yearAt (pos 1581)) 164) (Clock.H 15) 1 5 Zone.L "C0818B546F00A0" 51 ∷
-    both YearRow.AnyYear (Date.YW (yearAt (negsuc 128)) 24) (Clock.HM 15 27) 4 1000 Zone.Z "02FF7F5DEDC080FA00" 66 ∷
     both YearRow.AnyYear (Date.YWD (yearAt (pos 10000)) 24 2) (Clock.HMS 15 27 46) 3 500 (ahead 1 0) "0227105CBDBB8FA200" 67 ∷ []
 
 rows-checked : made mixed ≡ said mixed
