@@ -1,6 +1,6 @@
 """Compares each row of the proved tables with the independent reference: the calendar's years and dates, the
-types and their rows, the texts under types, the rows of Table 2, unaligned PER, DER and the lines. Prints the first
-row that differs and exits 1, or prints nothing."""
+types and their rows, the texts under types, fields, the rows of Table 2, unaligned PER, DER and the lines. Prints
+the first row that differs and exits 1, or prints nothing."""
 
 import re
 import sys
@@ -38,6 +38,17 @@ TIMES = ROOT / "crates/values/proofs/Laws/CheckedExistence.antt"
 LOCAL = re.compile(r"^ +time \(local \(Clock\.\w+((?: \d+)+)\) (\d+) (\d+)\) (true|false) ∷", re.M)
 ZONED = re.compile(r"^ +time \((ahead|behind) (\d+) (\d+)\) (true|false) ∷", re.M)
 UTC = re.compile(r"^ +time utc (true|false) ∷", re.M)
+
+FIELDS = ROOT / "crates/fields/proofs/Laws/Checked.antt"
+RANGED = re.compile(r'^ +ranged (\d+) (\d+) (\d+) "(\w+)" ∷', re.M)
+INTEGER = re.compile(r'^ +(integer|longer) \((\w+ \d+)\) "(\w+)" ∷', re.M)
+NO_RANGED = re.compile(r'^ +noRanged (\d+) "(\w*)" ∷', re.M)
+NO_INTEGER = re.compile(r'^ +noInteger "(\w*)" ∷', re.M)
+ALL_FIELDS = (
+    *per.NEAR_YEARS, per.MONTH, per.DAY, per.ORDINAL_DAY, per.WEEK, per.WEEKDAY, *per.DAY_TIME_FIELDS,
+    per.SHORT_FRACTION, per.DIFFERENCE_HOURS, per.DIFFERENCE_MINUTES,
+)
+WIDTHS = {field.highest - field.lowest + 1: field.width for field in ALL_FIELDS}
 
 TABLE_2 = ROOT / "crates/rows/proofs/Laws/Checked.antt"
 A_DATE = r"YearRow\.(\w+) \(Date\.(\w+) \(yearAt \((\w+ \d+)\)\)((?: \d+)*)\)"
@@ -145,6 +156,34 @@ def check_times():
         expect(TIMES, "utc", said, truth(time_exists((12,), 0, 0, "Z")))
 
 
+def taken(octets, take):
+    """What is taken from the front of octets, and how many bits; None where they are not readable."""
+    bits = per.Bits(bytes.fromhex(octets))
+    try:
+        return take(bits), bits.place
+    except per.Unreadable:
+        return None
+
+
+def check_fields():
+    """Numbers of the fields' ranges and free integers, both ways, and octets that give none."""
+    ranged, integers, no_ranged, no_integer = rows(FIELDS, RANGED, INTEGER, NO_RANGED, NO_INTEGER)
+    for numbers in ranged:
+        count, number, width = map(int, numbers[:3])
+        field, octets = per.Field(0, count - 1, WIDTHS[count]), numbers[3]
+        expect(FIELDS, numbers, bytes.fromhex(octets), per.fill(per.field_bits(field, number)))
+        expect(FIELDS, numbers, (number, width), taken(octets, lambda bits: bits.take_field(field)))
+    for kind, text, octets in integers:
+        written = per.fill(per.free_integer_bits(integer(text))) == bytes.fromhex(octets)
+        expect(FIELDS, f"{text} {octets}", kind == "integer", written)
+        expect(FIELDS, octets, (integer(text), 4 * len(octets)), taken(octets, per.Bits.take_free_integer))
+    for count, octets in no_ranged:
+        field = per.Field(0, int(count) - 1, WIDTHS[int(count)])
+        expect(FIELDS, f"{count} {octets}", None, taken(octets, lambda bits: bits.take_field(field)))
+    for octets in no_integer:
+        expect(FIELDS, octets, None, taken(octets, per.Bits.take_free_integer))
+
+
 def row_date(form, year, fields):
     """A date of the table of rows."""
     return texts.Date(form, integer(year), tuple(map(int, fields.split())))
@@ -167,11 +206,10 @@ def row_type(year_row=None, form=None, clock=None, digits="0", zone=None):
 
 def check_row(t, value, octets, said, loose):
     """The octets of a value with their bit count, and back; those of a loose spelling back only."""
-    octets, count = bytes.fromhex(octets), int(said)
     written = per.write(t, value)
-    expect(TABLE_2, value, True if loose else (octets, count), written[0] != octets if loose else written)
-    bits = per.Bits(octets)
-    expect(TABLE_2, value, (value, count), (per.take_value(bits, t), bits.place))
+    said_written = (bytes.fromhex(octets), int(said))
+    expect(TABLE_2, value, True if loose else said_written, written[0] != said_written[0] if loose else written)
+    expect(TABLE_2, value, (value, int(said)), taken(octets, lambda bits: per.take_value(bits, t)))
 
 
 def check_rows():
@@ -228,6 +266,7 @@ if __name__ == "__main__":
     check_types()
     check_texts()
     check_times()
+    check_fields()
     check_rows()
     check_codings()
     check_lines()

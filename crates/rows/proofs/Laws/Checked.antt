@@ -1,13 +1,10 @@
 -- Checked values: a success row for each row of Table 2, with the octets and the bit count that the reference gives, written and read. Only
 -- a table refuses an order, a width or a range that writer and reader share.
 use mathlib.Core.Path.{_≡_, refl}
-use mathlib.Core.Bool.{Bool, true, false, cond}
+use mathlib.Core.Bool.{Bool, true, false}
 use mathlib.Core.List.{List, [], _∷_}
-use Prim.Native.Nat.{ℕ, _+_, _-_, _*_}
-use Prim.Native.Char.{code}
-use Prim.Native.String as S
+use Prim.Native.Nat.{ℕ}
 use Prim.Native.String.{String}
-use lib.Dec.{ltb}
 use lib.IntN.{pos, negsuc}
 use lib.ListN.{drop}
 use Rattle.answers.specs.Counts.{octetsFor}
@@ -27,19 +24,10 @@ use Rattle.fields.specs.Bits.{bitsOf, numberIn, packed, octetsOf, unpacked}
 use Rattle.fields.specs.Integers.{half, within, fewest, twos, fromTwos}
 use Rattle.fields.specs.Fields.{binaryDigits, width, fieldBits, layout, fieldWidth, bitCount}
 use Rattle.fields.specs.Readings.{Found, found, nothing, _>>=_, aRanged, aFree, require, readBits, readRanged, readFree, run}
+use Rattle.fields.proofs.Laws.Quoted.{hex}
 use Rattle.rows.specs.declared.YearRow.{YearRow}
 use Rattle.rows.specs.Fields.{otherYear, choiceOfYear, yearFields, dayFields, dateFields, clockFields, longFraction, fractionFields, hoursField, differenceFields, zoneFields, timeFields, fieldsOf}
 use Rattle.rows.specs.Readings.{readChoice, readYear, readDay, readDate, readClock, natural, readExtended, readFraction, readMinutes, differenceAt, readZone, readTime, readValue, readOctets}
-
--- Octets that are quoted in hex.
-digit : ℕ → ℕ
-digit c = cond (ltb c 65) (c - 48) (c - 55)
-
-hex : String → List ℕ
-unfolding digit
-hex S.[] = []
-hex (S._∷_ c S.[]) = []
-hex (S._∷_ c (S._∷_ d s)) = (digit (code c) * 16 + digit (code d)) ∷ hex s
 
 -- Local time so far ahead of UTC, and so far behind it.
 abbrev ahead : ℕ → ℕ → Zone
