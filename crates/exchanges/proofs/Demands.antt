@@ -6,6 +6,8 @@ use mathlib.Core.List.{List}
 use mathlib.Core.Option.{Option, some, none}
 use Prim.Native.Nat.{ℕ}
 use native.Mathlib.Omega.{arith}
+use lib.Dec.{eqb}
+use borrow.Author.Tests.{eq-eqb, ne-eqb}
 use Rattle.answers.specs.Outcomes.{Answer, refused, outcomeOf}
 use Rattle.answers.specs.declared.refusals.Refusal.{Refusal}
 use Rattle.calendar.proofs.Laws.Bools.{both}
@@ -37,11 +39,11 @@ use Rattle.der.specs.Der.{der, derDecoded, derEncoded, inDer}
 use Rattle.der.specs.Elements.{element, elementOf}
 use Rattle.der.proofs.Laws.Der.{der-lawful, element-gives, one-tag}
 use Rattle.exchanges.specs.Coding.{derDecode, derEncode, perDecode, perEncode, underType}
-use Rattle.exchanges.specs.Limits.{limitsGiven, limitsNumber, underLimits}
+use Rattle.exchanges.specs.Limits.{limitsGiven, limitsNumber, underLimits, windowGiven}
 use Rattle.exchanges.specs.Demands.{Entry, per-encode, per-decode, der-encode, der-decode, answerInC, answerOf, encodes, decodes, BitsTold, Demand1, Demand1InC, Demand2InDer, Demand2InPer, Demand3InDer, Demand3InPer, LimitsFromC, LimitsTold, SevenNumbers, TextsTold, TypesTold, ValuesTold}
 use Rattle.exchanges.specs.declared.limits.LimitsRead.{LimitsRead}
 use Rattle.exchanges.proofs.Laws.Causes.{number-given}
-use Rattle.exchanges.proofs.Laws.Exchanges.{comes-back, meets-2, meets-3, written}
+use Rattle.exchanges.proofs.Laws.Exchanges.{comes-back, meets-2, meets-3, no-answer, written}
 
 -- ---- demand 1
 
@@ -52,15 +54,21 @@ pub demand-1-c : Demand1InC
 demand-1-c e settings limits input room = comes-back (answerInC e settings limits input) room
 
 pub limits-from-c : LimitsFromC
-limits-from-c e settings limits l input h = rw h
-
-pub limits-told : LimitsTold
-unfolding outcomeOf
-limits-told e settings limits input room n = go (limitsGiven limits) n
-  where
-    go : (r : LimitsRead) → limitsNumber r ≢ 0 → outcomeOf (underLimits r λ l. answerOf e settings l input) room .number ≡ limitsNumber r
-    go (LimitsRead.Limits l) n = absurd (n refl)
-    go LimitsRead.Misplaced n = refl
+unfolding limitsGiven windowGiven
+limits-from-c given = record {
+  limits-are = λ z.
+  let g : limitsGiven given ≡ LimitsRead.Limits (record { window = windowGiven given; hour24 = eqb (given .no24) 0 }) = simp (eq-eqb (given .counts) 0 z) in (
+    record { window = windowGiven given; hour24 = eqb (given .no24) 0 },
+    record {
+      every-year = λ y. simp (eq-eqb (given .years) 0 y);
+      window-is = λ y. simp (ne-eqb (given .years) 0 y);
+      hour-24 = eq-eqb (given .no24) 0;
+      no-hour-24 = ne-eqb (given .no24) 0;
+    },
+    λ e settings input. rw g,
+  );
+  no-count = λ z e settings input room. no-answer (answerInC e settings given input) room Refusal.Settings (rw (ne-eqb (given .counts) 0 z));
+}
 
 -- ---- demand 2
 
@@ -195,3 +203,11 @@ values-told settings limits t q octets room v n = (
   where
     k : wellFormed t ≡ true
     k = read-well-formed limits settings t q
+
+pub limits-told : LimitsTold
+unfolding outcomeOf
+limits-told e settings limits input room n = go (limitsGiven limits) n
+  where
+    go : (r : LimitsRead) → limitsNumber r ≢ 0 → outcomeOf (underLimits r λ l. answerOf e settings l input) room .number ≡ limitsNumber r
+    go (LimitsRead.Limits l) n = absurd (n refl)
+    go LimitsRead.Misplaced n = refl

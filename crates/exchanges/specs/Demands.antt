@@ -8,6 +8,7 @@ use mathlib.Core.Option.{Option, some, none}
 use Prim.Native.Nat.{ℕ, _≤_, _<_}
 use lib.ListN.{length, take, drop}
 use Rattle.answers.specs.Outcomes.{Answer, outcomeOf, roomOf}
+use Rattle.calendar.specs.Years.{yearAt}
 use Rattle.texts.specs.Texts.{render, textOf}
 use Rattle.texts.specs.declared.values.Spelling.{Spelling}
 use Rattle.texts.specs.declared.values.Value.{Value}
@@ -15,6 +16,7 @@ use Rattle.types.specs.Rows.{sameRows}
 use Rattle.types.specs.Types.{formOf, fractionDigits, typeNumber}
 use Rattle.types.specs.declared.types.Limits.{Limits}
 use Rattle.types.specs.declared.types.TypeRead.{TypeRead}
+use Rattle.types.specs.declared.types.Window.{Window}
 use Rattle.types.specs.declared.types.«Type».{«Type» as Ty}
 use Rattle.settings.specs.TypeTexts.{typeOf}
 use Rattle.values.specs.Admission.{admissionNumber, admitted, judged, judgementNumber}
@@ -30,7 +32,6 @@ use Rattle.der.specs.Elements.{contentsOf, tagOf}
 use Rattle.exchanges.specs.Coding.{derDecode, derEncode, perDecode, perEncode}
 use Rattle.exchanges.specs.Limits.{limitsGiven, limitsNumber, underLimits}
 use Rattle.exchanges.specs.declared.limits.GivenLimits.{GivenLimits}
-use Rattle.exchanges.specs.declared.limits.LimitsRead.{LimitsRead}
 
 -- ---- what is said of a call
 
@@ -85,17 +86,24 @@ pub data ComesBack (answer : Answer) (room : List ℕ) : Type 0 where
 abbrev pub Demand1 : Type 0
 Demand1 = (e : Entry) (settings : List ℕ) (limits : Limits) (input room : List ℕ) → ComesBack (answerOf e settings limits input) room
 
--- .. and from C. Where the struct gives limits, the answer is the entry point's, so demands 2 and 3 and the causes are of both; else it is 1.
+-- .. and from C.
 abbrev pub Demand1InC : Type 0
 Demand1InC = (e : Entry) (settings : List ℕ) (limits : GivenLimits) (input room : List ℕ) → ComesBack (answerInC e settings limits input) room
 
-abbrev pub LimitsFromC : Type 0
-LimitsFromC = (e : Entry) (settings : List ℕ) (limits : GivenLimits) (l : Limits) (input : List ℕ) → limitsGiven limits ≡ LimitsRead.Limits l
-    → answerInC e settings limits input ≡ answerOf e settings l input
+-- The limits of the header's struct: "a lowest and a highest year" where its first number is not 0, "no hour 24" where that number is not 0.
+pub record LimitsStand (given : GivenLimits) (l : Limits) : Type 0 where
+  pub every-year : given .years ≡ 0 → l .window ≡ Window.Every
+  pub window-is : given .years ≢ 0 → l .window ≡ Window.Within (yearAt (given .lowest)) (yearAt (given .highest))
+  pub hour-24 : given .no24 ≡ 0 → l .hour24 ≡ true
+  pub no-hour-24 : given .no24 ≢ 0 → l .hour24 ≡ false
 
-abbrev pub LimitsTold : Type 0
-LimitsTold = (e : Entry) (settings : List ℕ) (limits : GivenLimits) (input room : List ℕ) → limitsNumber (limitsGiven limits) ≢ 0
-    → outcomeOf (answerInC e settings limits input) room .number ≡ limitsNumber (limitsGiven limits)
+-- Under these limits the answer is the entry point's, so that all that is claimed is of both; a count has no place, which is 1.
+pub record FromC (given : GivenLimits) : Type 0 where
+  pub limits-are : given .counts ≡ 0 → (l : Limits) × LimitsStand given l × ((e : Entry) (settings input : List ℕ) → answerInC e settings given input ≡ answerOf e settings l input)
+  pub no-count : given .counts ≢ 0 → (e : Entry) (settings input room : List ℕ) → Refused (answerInC e settings given input) room 1
+
+abbrev pub LimitsFromC : Type 0
+LimitsFromC = (given : GivenLimits) → FromC given
 
 -- ---- demand 2
 
@@ -253,3 +261,8 @@ ValuesTold = (settings : List ℕ) (limits : Limits) (t : Ty) → typeOf limits 
     → judgementNumber (judged t v) ≢ 0
     → (readAs per decodes t octets ≡ some v → outcomeOf (perDecode settings limits octets) room .number ≡ judgementNumber (judged t v))
     × (readAs der decodes t octets ≡ some v → outcomeOf (derDecode settings limits octets) room .number ≡ judgementNumber (judged t v))
+
+-- From C, of the limits that are given.
+abbrev pub LimitsTold : Type 0
+LimitsTold = (e : Entry) (settings : List ℕ) (limits : GivenLimits) (input room : List ℕ) → limitsNumber (limitsGiven limits) ≢ 0
+    → outcomeOf (answerInC e settings limits input) room .number ≡ limitsNumber (limitsGiven limits)

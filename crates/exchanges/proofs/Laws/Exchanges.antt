@@ -57,7 +57,7 @@ module _ (answer : Answer) (room : List ℕ) where
   short : (result : List ℕ) (bits : Bits) → answer ≡ done result bits → length room < length result → Refused answer room 7
   short result bits e h = rw e (let k = Outcomes.short result room bits h in refuses (done result bits) Refusal.Room room (k .0) (k .1))
 
-  no-answer : (why : Refusal) → answer ≡ refused why → Refused answer room (numberOf why)
+  pub no-answer : (why : Refusal) → answer ≡ refused why → Refused answer room (numberOf why)
   no-answer why e = rw e (let k = Outcomes.none why room in refuses (refused why) why room (k .0) (k .1))
 
   -- Demand 1 is of every answer.
