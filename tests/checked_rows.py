@@ -60,8 +60,10 @@ NO_DATE = re.compile(r'^ +noDate YearRow\.(\w+) DateForm\.(\w+) "(\w*)" ∷', re
 NO_TIME = re.compile(r'^ +noTime ClockForm\.(\w+) (\d+) ZoneForm\.(\w+) "(\w*)" ∷', re.M)
 YEAR_ROWS = {"Year": frozenset({"Basic", "Proleptic"}), "AnyYear": frozenset({"Negative", "L5"})}
 
-CODINGS = ROOT / "crates/codec/proofs/Laws/Checked.antt"
+CODINGS = ROOT / "crates/exchanges/proofs/Laws/Checked.antt"
 VALUE = re.compile(r'^ +value "([^"]*)" "([^"]*)" (\d) "([^"]*)" (\d+) "([^"]*)" ∷', re.M)
+CODED = re.compile(r'^ +coded "([^"]*)" "([^"]*)" "([^"]*)" (\d+) ∷', re.M)
+LIMITED = re.compile(r'^ +limited (\w+) "([^"]*)" "([^"]*)" (\d) "([^"]*)" (\d+) ∷', re.M)
 TAGGED = re.compile(r'^ +element "([^"]*)" "([^"]*)" (\d) "([^"]*)" "([^"]*)" ∷', re.M)
 CAUSE = re.compile(r'^ +(per|der)Cause "([^"]*)" (\w+) "([^"]*)" (\d+) (\d) ∷', re.M)
 CODING_LIMITS = {
@@ -231,22 +233,26 @@ def check_rows():
         expect(TABLE_2, f"{clock} {octets}", None, per.read_octets(t, bytes.fromhex(octets)))
 
 
-def check_both_ways(coding, type_text, text, number, octets, bits, canonical):
+def check_both_ways(coding, type_text, text, number, octets, bits, canonical, limits=settings.NO_LIMITS):
     """What an encoder makes of a text, and after 0 what the decoder makes of its octets."""
     said = (int(number), bytes.fromhex(octets), int(bits))
-    found = coding.encode(type_text.encode(), settings.NO_LIMITS, text.encode(), ROOM)
+    found = coding.encode(type_text.encode(), limits, text.encode(), ROOM)
     expect(CODINGS, f"{type_text} {text}", said, found)
     if number == "0":
-        back = coding.decode(type_text.encode(), settings.NO_LIMITS, bytes.fromhex(octets), ROOM)
+        back = coding.decode(type_text.encode(), limits, bytes.fromhex(octets), ROOM)
         expect(CODINGS, f"{type_text} {octets}", (0, canonical.encode(), int(bits)), back)
 
 
 def check_codings():
-    """Values in PER and in DER, and back; elements of each tag; and the number of each cause."""
-    values, tagged, causes = rows(CODINGS, VALUE, TAGGED, CAUSE)
+    """Values in PER and in DER, and back; a value of each row, and some under limits; elements of each tag; and the number of each cause."""
+    values, coded, limited, tagged, causes = rows(CODINGS, VALUE, CODED, LIMITED, TAGGED, CAUSE)
     for type_text, text, number, octets, bits, element in values:
         check_both_ways(per, type_text, text, number, octets, bits, text)
         check_both_ways(der, type_text, text, number, element, "0", text)
+    for type_text, text, octets, bits in coded:
+        check_both_ways(per, type_text, text, "0", octets, bits, text)
+    for limits, type_text, text, number, octets, bits in limited:
+        check_both_ways(per, type_text, text, number, octets, bits, text, CODING_LIMITS[limits])
     for type_text, text, number, element, canonical in tagged:
         check_both_ways(der, type_text, text, number, element, "0", canonical)
     for work, type_text, limits, octets, room, number in causes:

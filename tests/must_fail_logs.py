@@ -2,8 +2,8 @@
 code shows nothing: its first error is one of the messages below, and it is printed, with exit 1. A file of several
 wrong programs says of each at which proof it is refused, and at which need of it where two share a proof, and each of these
 must have an error that is none of those messages. A wrong definition is first refused by a law or by a demand, and not by the
-proof of a function that no longer agrees with it. Otherwise nothing is printed. Whether any other error is a fact that fails
-is for a reader to see."""
+proof of a function that no longer agrees with it. Where code and proofs follow it, as such an edit says of itself, every error is in
+a law, or of what rests on one. Otherwise nothing is printed. Whether any other error is a fact that fails is for a reader to see."""
 
 import re
 import sys
@@ -15,6 +15,8 @@ UNFIT = re.compile(
 )
 ERROR = re.compile(r"(\S+\.antt):\d+:\d+: error")
 LAW = re.compile(r"/proofs/(?:Laws/\w+|Demands)\.antt$")
+ADMITTED = re.compile(r"was not admitted")
+FOLLOWED = re.compile(r"^# code and proofs follow$", re.M)
 PART = re.compile(r"^# (\w+): refused at (\S+)(?: (\S+))?$", re.M)
 
 
@@ -34,6 +36,9 @@ def faults(edit, log, definition=False):
     parts = PART.findall(edit)
     if definition and found and not LAW.search(found[0][0]):
         yield f"no law refuses it first: {found[0][1][:300]}"
+    if FOLLOWED.search(edit):
+        apart = [error for file, error in found if not LAW.search(file) and not ADMITTED.search(error)]
+        yield from (f"the code does not follow: {error[:300]}" for error in apart[:1])
     if not parts and (not found or UNFIT.search(found[0][1])):
         yield f"only unfits a proof file: {(found[0][1] if found else 'no error')[:300]}"
     whole = {path for _, path, need in parts if not need}
@@ -62,6 +67,9 @@ def self_test():
     law = fact.replace("a/Proof", "Laws/A")
     if list(faults("", law + fact, True)) or not list(faults("", fact + law, True)):
         sys.exit("must_fail_logs.py does not see which error is first")
+    follows = "# code and proofs follow\n"
+    if list(faults(follows, law + unfit, True)) or not list(faults(follows, law + fact, True)):
+        sys.exit("must_fail_logs.py does not see where the code no longer follows")
 
 
 def main():

@@ -8,7 +8,7 @@ use Rattle.calendar.specs.Years.{yearAt}
 use Rattle.types.specs.Types.{noLimits}
 use Rattle.types.specs.declared.types.Limits.{Limits}
 use Rattle.types.specs.declared.types.Window.{Window}
-use Rattle.codec.specs.Coding.{perEncode, perDecode, derEncode, derDecode}
+use Rattle.exchanges.specs.Coding.{perEncode, perDecode, derEncode, derDecode}
 use Rattle.checked.specs.declared.Bounds.{Bounds}
 use Rattle.checked.specs.declared.Work.{Work}
 

@@ -1,6 +1,6 @@
 ghost use mathlib.Core.Path.{_≡_};
 ghost use Rattle.answers.specs.Outcomes.{outcomeOf, roomOf};
-ghost use Rattle.codec.specs.Coding.{perEncode, perDecode, derEncode, derDecode};
+ghost use Rattle.exchanges.specs.Coding.{perEncode, perDecode, derEncode, derDecode};
 use answers::Outcome;
 use answers::Refusal;
 use settings::read_type;

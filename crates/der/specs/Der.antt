@@ -9,7 +9,7 @@ use Rattle.types.specs.declared.types.Name.{Name}
 use Rattle.types.specs.declared.types.«Type».{«Type» as Ty}
 use Rattle.kinds.specs.Kinds.{Kind}
 use Rattle.kinds.specs.Coding.{encoded, decoded}
-use Rattle.encodings.specs.Encodings.{encodedBy}
+use Rattle.encodings.specs.Encodings.{Encoding, encodedBy}
 use Rattle.der.specs.Elements.{elementOf}
 use Rattle.der.specs.Readings.{readElement}
 
@@ -21,9 +21,13 @@ nameOf t = t .name
 abbrev pub noBits : Bits
 noBits = record { count = 0 }
 
--- Dates and times in DER.
+-- DER goes by a type's name.
+abbrev pub inDer : Encoding Name
+inDer = record { row = nameOf; encoding = elementOf; count = λ name v. noBits; readOctets = readElement }
+
+-- Dates and times in it.
 abbrev pub der : Kind Ty Form Name Value
-der = encodedBy nameOf elementOf (λ name v. noBits) readElement
+der = encodedBy inDer
 
 -- What encoding a text answers, ..
 abbrev pub derEncoded : Ty → List ℕ → Answer

@@ -18,17 +18,24 @@ abbrev pub ofText : TextRead → Option Value
 ofText (TextRead.Value v s) = some v
 ofText TextRead.NotOfForm = none
 
--- An encoding adds to them what of a type it goes by, the octets of a value with their bit count, and what octets give.
-abbrev pub encodedBy : {R : Type 0} → (Ty → R) → (R → Value → List ℕ) → (R → Value → Bits) → (R → Form → List ℕ → Option Value) → Kind Ty Form R Value
-encodedBy row encoding count readOctets = record {
+-- An encoding of them: what of a type it goes by, the octets of a value with their bit count, and what octets give at a form.
+pub record Encoding (R : Type 0) : Type 0 where
+  pub row : Ty → R
+  pub encoding : R → Value → List ℕ
+  pub count : R → Value → Bits
+  pub readOctets : R → Form → List ℕ → Option Value
+
+-- Dates and times in an encoding.
+abbrev pub encodedBy : {R : Type 0} → Encoding R → Kind Ty Form R Value
+encodedBy E = record {
   wellFormed = wellFormed;
   form = formOf;
-  row = row;
+  row = E .row;
   exists = existsValue;
   inType = inType;
   textOf = textOf;
   readText = λ form text. ofText (readOf form text);
-  encoding = encoding;
-  count = count;
-  readOctets = readOctets;
+  encoding = E .encoding;
+  count = E .count;
+  readOctets = E .readOctets;
 }

@@ -12,7 +12,7 @@ use Rattle.lists.specs.Lists.{spanTo}
 use Rattle.lists.specs.Octets.{bytes, eqList}
 use mathlib.Core.Option.{Option, some, none}
 use Rattle.types.specs.Types.{noLimits}
-use Rattle.codec.specs.Coding.{perEncode, perDecode, derEncode, derDecode}
+use Rattle.exchanges.specs.Coding.{perEncode, perDecode, derEncode, derDecode}
 
 -- "more than 1,024 octets prints `?`": a line without its newline.
 abbrev pub longestLine : ℕ

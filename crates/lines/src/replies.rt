@@ -7,7 +7,7 @@ ghost use Rattle.lists.specs.Octets.{bytes};
 ghost use Rattle.printing.specs.Canonical.{textCapacity};
 ghost use Rattle.printing.specs.Stores.{StoredText};
 ghost use Rattle.types.specs.Types.{noLimits};
-ghost use Rattle.codec.specs.Coding.{perEncode, perDecode, derEncode, derDecode};
+ghost use Rattle.exchanges.specs.Coding.{perEncode, perDecode, derEncode, derDecode};
 ghost use Rattle.lines.specs.Lines.{asText, cutAgain, fromHex, longestLine, ofOctets, shown, toHex, unasked, worked};
 ghost use Rattle.lines.specs.Rooms.{replyCapacity, replyLength, roomWith};
 ghost use Rattle.lines.specs.Steps.{replyTo};

@@ -16,7 +16,7 @@ use Rattle.rows.specs.declared.YearRow.{YearRow}
 use mathlib.Core.Option.{Option, some, none}
 use Rattle.kinds.specs.Kinds.{Kind}
 use Rattle.kinds.specs.Coding.{encoded, decoded}
-use Rattle.encodings.specs.Encodings.{encodedBy}
+use Rattle.encodings.specs.Encodings.{Encoding, encodedBy}
 
 -- What bits give, whatever is left of them.
 abbrev pub ofBits : Found Bool Value → Option Value
@@ -30,9 +30,18 @@ encodingOf row v = octetsOf (layout (fieldsOf row v))
 unfoldable pub countOf : YearRow → Value → Bits
 countOf row v = record { count = bitCount (fieldsOf row v) }
 
--- Dates and times in unaligned PER.
+-- Unaligned PER goes by the row of a type's years.
+abbrev pub inPer : Encoding YearRow
+inPer = record {
+  row = yearRowOf;
+  encoding = encodingOf;
+  count = countOf;
+  readOctets = λ row form octets. ofBits (readOctets row form octets);
+}
+
+-- Dates and times in it.
 abbrev pub per : Kind Ty Form YearRow Value
-per = encodedBy yearRowOf encodingOf countOf λ row form octets. ofBits (readOctets row form octets)
+per = encodedBy inPer
 
 -- What encoding a text answers, ..
 abbrev pub perEncoded : Ty → List ℕ → Answer

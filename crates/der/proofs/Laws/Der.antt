@@ -37,11 +37,11 @@ use Rattle.values.proofs.Laws.Holding.{in-type}
 use Rattle.lists.specs.Octets.{eqList}
 use mathlib.Core.Option.{some, none}
 use Rattle.kinds.specs.Coding.{judgedAs}
-use Rattle.kinds.specs.Causes.{Accepted, Holds, Judged, Lawful}
+use Rattle.kinds.specs.Lawful.{Accepted, Holds, Lawful}
 use Rattle.kinds.proofs.Laws.Coding as Coding
 use Rattle.encodings.specs.Encodings.{ofText}
-use Rattle.encodings.proofs.Laws.Encodings.{answerOf, answerWith, decoded-short, encoded-admitted, judged-as, text-read}
-use Rattle.der.specs.Der.{der, derDecoded, derEncoded, nameOf, noBits}
+use Rattle.encodings.proofs.Laws.Encodings.{admissionAnswer, answerWith, decoded-short, encoded-admitted, judged-as, text-read}
+use Rattle.der.specs.Der.{der, derDecoded, derEncoded, inDer, nameOf, noBits}
 use Rattle.der.specs.Elements.{contentsOf, element, elementOf, omits, tagOf, without}
 use Rattle.der.specs.Readings.{allDigits, digitsOnly, readContents, readElement}
 use Rattle.der.proofs.Laws.Contents.{date-fields, element-size, fields-all, fields-back, fields-kept, fields-length, fieldsDigits, time-fields, without-most, without-none}
@@ -167,10 +167,10 @@ element-gives t v h form =
     ∙ own-contents form (t .name) (t .parts) v (both (wellParts (t .parts)) _ (h .formed) .1) (i .0) (i .1)
 
 octets-read : (t : Ty) (v : Value) → Holds der t v → readElement (t .name) (formOf t) (elementOf (t .name) v) ≡ some v
-octets-read t v h = element-gives t v h (formOf t) ∙ text-read nameOf elementOf (λ name v. noBits) readElement t v h canonical
+octets-read t v h = element-gives t v h (formOf t) ∙ text-read inDer t v h canonical
 
 pub der-lawful : Lawful der
-der-lawful = record { text-own = λ t v h. text-read nameOf elementOf (λ name v. noBits) readElement t v h canonical; octets-own = octets-read }
+der-lawful = record { text-own = λ t v h. text-read inDer t v h canonical; octets-own = octets-read }
 
 -- Whatever is accepted is the element of the value returned.
 pub der-accepted : (t : Ty) (octets text : List ℕ) {bits : Bits} → derDecoded t octets ≡ done text bits → Accepted der t octets text
@@ -179,14 +179,6 @@ der-accepted t octets text {bits} e = Coding.decoded-only der t octets text bits
 -- Two values of one type never share an encoding.
 pub der-one-encoding : (t : Ty) (a b : Value) → Holds der t a → Holds der t b → elementOf (t .name) a ≡ elementOf (t .name) b → a ≡ b
 der-one-encoding t a b h k e = Coding.one-encoding der der-lawful t a b h k e
-
--- ---- "Each is given exactly then."
-
-pub der-judged : (t : Ty) (octets : List ℕ) → Judged der t octets (derDecoded t octets)
-der-judged t octets = Coding.judged der t octets
-
-pub der-judged-only : (t : Ty) (octets : List ℕ) (answer : Answer) → Judged der t octets answer → derDecoded t octets ≡ answer
-der-judged-only t octets answer j = Coding.judged-only der t octets answer j
 
 -- ---- how long results are
 
@@ -198,16 +190,16 @@ der-encoded-short t text result bits e =
     rw (← q) (element-most (t .name) (x .0) (x .1 .real))
 
 pub der-decoded-short : (t : Ty) (octets result : List ℕ) (bits : Bits) → derDecoded t octets ≡ done result bits → length result ≤ 52
-der-decoded-short = decoded-short nameOf elementOf (λ name v. noBits) readElement
+der-decoded-short = decoded-short inDer
 
 -- ---- the encoder's answer is that of an admission
 
-pub der-admitted : (t : Ty) (text : List ℕ) → derEncoded t text ≡ answerOf elementOf (λ name v. noBits) (nameOf t) (admitted t text)
-der-admitted = encoded-admitted nameOf elementOf (λ name v. noBits) readElement
+pub der-admitted : (t : Ty) (text : List ℕ) → derEncoded t text ≡ admissionAnswer inDer (nameOf t) (admitted t text)
+der-admitted = encoded-admitted inDer
 
 -- What is judged of a value, as the code has it.
 pub der-judged-as : (t : Ty) (v : Value) (answer : Answer) → judgedAs der t v answer ≡ answerWith answer (judged t v)
-der-judged-as = judged-as nameOf elementOf (λ name v. noBits) readElement
+der-judged-as = judged-as inDer
 
 -- The element that is written into a buffer, to be compared with.
 pub own-element : (name : Name) (v : Value) (text room own : List ℕ) (r : Outcome) → existsValue v ≡ true → text ≡ textOf v → 55 ≤ length room

@@ -31,83 +31,83 @@ use Rattle.values.proofs.Laws.Existing.{exists-digits, held-fits, held-read}
 use Rattle.values.proofs.Laws.Holding.{form-same, held, holds-both, in-type, same-form}
 use mathlib.Core.Option.{Option, some, none}
 use Rattle.kinds.specs.Coding.{encoded, decoded, judgedText, judgedAs}
-use Rattle.kinds.specs.Causes.{Holds}
+use Rattle.kinds.specs.Kinds.{holds, readNumber}
+use Rattle.kinds.specs.Lawful.{Holds, Notation}
 use Rattle.kinds.proofs.Laws.Coding as Coding
-use Rattle.encodings.specs.Encodings.{ofText, encodedBy}
+use Rattle.encodings.specs.Encodings.{Encoding, ofText, encodedBy}
 
 -- What an admission answers: the encoding of the value, or the refusal.
-abbrev pub answerOf : {R : Type 0} → (R → Value → List ℕ) → (R → Value → Bits) → R → Admission → Answer
-answerOf encoding count row (Admission.Value v) = done (encoding row v) (count row v)
-answerOf encoding count row (Admission.Refused why) = refused why
+abbrev pub admissionAnswer : {R : Type 0} → Encoding R → R → Admission → Answer
+admissionAnswer E row (Admission.Value v) = done (E .encoding row v) (E .count row v)
+admissionAnswer E row (Admission.Refused why) = refused why
 
 -- What is answered where a type holds a value, or the refusal.
 abbrev pub answerWith : Answer → Judgement → Answer
 answerWith answer Judgement.Held = answer
 answerWith answer (Judgement.Refused why) = refused why
 
--- The canonical text of a value that a type holds is of the type's form, ..
-pub own-form : (t : Ty) (v : Value) → holdsOf t v ≡ true → textNumber (readOf (formOf t) (textOf v)) ≡ 0
-own-form t v h = ap textNumber (held-read t v h canonical)
+-- The number of what a text gives is that of what was read.
+pub text-number : (r : TextRead) → readNumber (ofText r) ≡ textNumber r
+text-number (TextRead.Value v s) = refl
+text-number TextRead.NotOfForm = refl
 
--- .. and of no other.
-pub one-form : (t : Ty) (v : Value) → holdsOf t v ≡ true → (f : Form) → textNumber (readOf f (textOf v)) ≡ 0 → formOf t ≡ f
-one-form t v h f e = go (sameForm (valueForm v) f) refl
+-- A text that gives a value is one of its texts, ..
+text-of : (f : Form) (l : List ℕ) (v : Value) (r : TextRead) → readOf f l ≡ r → ofText r ≡ some v → (s : Spelling) × (l ≡ render s v)
+text-of f l v (TextRead.Value w s) r q =
+    let p : w ≡ v = cc in
+    (s, render-read longestYear (omega arith) (omega arith) f l w s r .0 ∙ ap (render s) p)
+text-of f l v TextRead.NotOfForm r q = absurd (let z : _≡_ {A = ℕ} 0 1 = cc in omega arith)
+
+-- .. and the canonical text of a value that a type holds is of no other form than the type's.
+held-form : (t : Ty) (v : Value) → holdsOf t v ≡ true → (f : Form) (w : Value) → ofText (readOf f (textOf v)) ≡ some w → formOf t ≡ f
+held-form t v h f w e = go (sameForm (valueForm v) f) refl
   where
     go : (b : Bool) → sameForm (valueForm v) f ≡ b → formOf t ≡ f
     go true b = sym (in-type t v (held t v h .1) .0) ∙ same-form (valueForm v) f b
     go false b =
         let n : readOf f (textOf v) ≡ TextRead.NotOfForm =
         other-form longestYear (omega arith) longestYear (omega arith) (omega arith) (omega arith) canonical v f (held-fits t v h) (λ q. false≢true (sym b ∙ form-same (valueForm v) f q)) in
-        absurd (let z : 3 ≡ 0 = sym (ap textNumber n) ∙ e in omega arith)
+        absurd (let o = sym (ap ofText n) ∙ e in let z : _≡_ {A = ℕ} 0 1 = cc in omega arith)
 
--- A value that exists, and that a type doesn't hold, isn't in the type.
-pub not-inside : (t : Ty) (v : Value) → existsValue v ≡ true → holdsOf t v ≡ false → inType t v ≡ false
-unfolding holdsOf
-not-inside t v e h = rw e at h
-
--- A text that is not of a form is read as nothing.
-pub text-none : (r : TextRead) → textNumber r ≡ 3 → ofText r ≡ none
-text-none (TextRead.Value v s) e = absurd (omega arith)
-text-none TextRead.NotOfForm e = refl
-
-module _ {R : Type 0} (row : Ty → R) (encoding : R → Value → List ℕ) (count : R → Value → Bits) (readOctets : R → Form → List ℕ → Option Value) where
-  pub held-by : (t : Ty) (v : Value) → Holds (encodedBy row encoding count readOctets) t v → holdsOf t v ≡ true
+module _ {R : Type 0} (E : Encoding R) where
+  pub held-by : (t : Ty) (v : Value) → Holds (encodedBy E) t v → holdsOf t v ≡ true
   held-by t v h = holds-both t v (h .real) (h .inside)
 
-  -- a type that settings give, and a value that it holds
-  pub holds : (t : Ty) (v : Value) → wellFormed t ≡ true → holdsOf t v ≡ true → Holds (encodedBy row encoding count readOctets) t v
-  holds t v w h = let p = held t v h in record { formed = w; real = p .0; inside = p .1 }
+  -- what the kind holds is what the type does
+  pub holds-is : (t : Ty) (v : Value) → holds (encodedBy E) t v ≡ holdsOf t v
+  unfolding holdsOf
+  holds-is t v = refl
 
   -- any text of a value that a type holds is read as it
-  pub text-read : (t : Ty) (v : Value) → Holds (encodedBy row encoding count readOctets) t v → (s : Spelling) → ofText (readOf (formOf t) (render s v)) ≡ some v
+  pub text-read : (t : Ty) (v : Value) → Holds (encodedBy E) t v → (s : Spelling) → ofText (readOf (formOf t) (render s v)) ≡ some v
   text-read t v h s = ap ofText (held-read t v (held-by t v h) s)
 
   -- what the decoder returns is a short text
   pub decoded-short : (t : Ty) (octets result : List ℕ) (bits : Bits)
-      → decoded (encodedBy row encoding count readOctets) t octets ≡ done result bits → length result ≤ 52
+      → decoded (encodedBy E) t octets ≡ done result bits → length result ≤ 52
   decoded-short t octets result bits e =
-      let a = Coding.decoded-only (encodedBy row encoding count readOctets) t octets result bits e in
+      let a = Coding.decoded-only (encodedBy E) t octets result bits e in
       rw (a .text-is) (text-length (a .value) (exists-digits (a .value) (a .held .real)))
 
   -- the encoder's answer, as the code has it
-  pub encoded-admitted : (t : Ty) (text : List ℕ) → encoded (encodedBy row encoding count readOctets) t text ≡ answerOf encoding count (row t) (admitted t text)
+  pub encoded-admitted : (t : Ty) (text : List ℕ) → encoded (encodedBy E) t text ≡ admissionAnswer E (E .row t) (admitted t text)
   unfolding encoded judgedText judgedAs admitted judged
   encoded-admitted t text = formed (wellFormed t) (readOf (formOf t) text)
     where
-      formed : (b : Bool) (r : TextRead) → cond b (judgedText (encodedBy row encoding count readOctets) t (ofText r)) (refused Refusal.Settings)
-          ≡ answerOf encoding count (row t) (cond b (judgedRead t r) (Admission.Refused Refusal.Settings))
+      formed : (b : Bool) (r : TextRead) → cond b (judgedText (encodedBy E) t (ofText r)) (refused Refusal.Settings)
+          ≡ admissionAnswer E (E .row t) (cond b (judgedRead t r) (Admission.Refused Refusal.Settings))
       formed false r = refl
       formed true TextRead.NotOfForm = refl
       formed true (TextRead.Value v s) = real (existsValue v) (inType t v)
         where
-          real : (a b : Bool) → cond a (cond b (done (encoding (row t) v) (count (row t) v)) (refused Refusal.Membership)) (refused Refusal.Existence)
-              ≡ answerOf encoding count (row t) (givenAs v (cond a (cond b Judgement.Held (Judgement.Refused Refusal.Membership)) (Judgement.Refused Refusal.Existence)))
+          real : (a b : Bool) → cond a (cond b (done (E .encoding (E .row t) v) (E .count (E .row t) v)) (refused Refusal.Membership)) (refused Refusal.Existence)
+              ≡ admissionAnswer E (E .row t) (givenAs v (cond a (cond b Judgement.Held (Judgement.Refused Refusal.Membership)) (Judgement.Refused Refusal.Existence)))
           real false b = refl
           real true false = refl
           real true true = refl
 
   -- what is judged of a value, as the code has it
-  pub judged-as : (t : Ty) (v : Value) (answer : Answer) → judgedAs (encodedBy row encoding count readOctets) t v answer ≡ answerWith answer (judged t v)
+  pub judged-as : (t : Ty) (v : Value) (answer : Answer) → judgedAs (encodedBy E) t v answer ≡ answerWith answer (judged t v)
   unfolding judgedAs judged
   judged-as t v answer = go (existsValue v) (inType t v)
     where
@@ -117,21 +117,10 @@ module _ {R : Type 0} (row : Ty → R) (encoding : R → Value → List ℕ) (co
       go true false = refl
       go true true = refl
 
-  -- any text of a value that a type holds is encoded
-  pub written : (t : Ty) (v : Value) → Holds (encodedBy row encoding count readOctets) t v → (s : Spelling)
-      → encoded (encodedBy row encoding count readOctets) t (render s v) ≡ done (encoding (row t) v) (count (row t) v)
-  written t v h s = Coding.encoded-own (encodedBy row encoding count readOctets) t (render s v) v h (text-read t v h s)
-
-  -- what is encoded is a text of a value that the type holds
-  pub written-only : (t : Ty) (text result : List ℕ) (bits : Bits) → encoded (encodedBy row encoding count readOctets) t text ≡ done result bits
-      → (v : Value) × Holds (encodedBy row encoding count readOctets) t v × (s : Spelling) × (text ≡ render s v)
-  written-only t text result bits e =
-      let x = Coding.encoded-only (encodedBy row encoding count readOctets) t text result bits e in
-      go (readOf (formOf t) text) refl (x .0) (x .1) (x .2)
-    where
-      go : (r : TextRead) → readOf (formOf t) text ≡ r → (v : Value) → Holds (encodedBy row encoding count readOctets) t v → ofText r ≡ some v
-          → (v : Value) × Holds (encodedBy row encoding count readOctets) t v × (s : Spelling) × (text ≡ render s v)
-      go (TextRead.Value w s) r v h q =
-          let p : w ≡ v = cc in
-          (v, h, s, render-read longestYear (omega arith) (omega arith) (formOf t) text w s r .0 ∙ ap (render s) p)
-      go TextRead.NotOfForm r v h q = absurd (let z : _≡_ {A = ℕ} 0 1 = cc in omega arith)
+  -- The texts of dates and times, in any encoding.
+  pub noted : Notation (encodedBy E) Spelling render
+  noted = record {
+    text-read = text-read;
+    text-only = λ f l v e. text-of f l v (readOf f l) refl e;
+    one-form = λ t v h f w e. held-form t v (held-by t v h) f w e;
+  }

@@ -1,4 +1,4 @@
--- What demands 2 and 3 rest on, and "each is given exactly then", for any lawful kind.
+-- What the demands and the causes of the seven numbers rest on, for any lawful kind.
 use mathlib.Core.Path.{_≡_, refl, sym}
 use mathlib.Core.Bool.{Bool, true, false, cond}
 use mathlib.Core.List.{List}
@@ -12,7 +12,7 @@ use Rattle.lists.proofs.Laws.Octets.{equal, equal-test}
 use mathlib.Core.Option.{Option, some, none}
 use Rattle.kinds.specs.Kinds.{Kind}
 use Rattle.kinds.specs.Coding.{judgedAs, judgedText, encoded, compared, judgedOctets, decoded}
-use Rattle.kinds.specs.Causes.{Holds, Lawful, Accepted, Judged, one, three, four, five, six, zero}
+use Rattle.kinds.specs.Lawful.{Holds, Lawful, Accepted}
 
 -- A test that lets a result through held.
 passed : (b : Bool) (answer : Answer) (why : Refusal) (result : List ℕ) (bits : Bits)
@@ -83,47 +83,37 @@ module _ {T F R A : Type 0} (K : Kind T F R A) where
         let q = L .octets-own t b k in
         cc
 
-module _ {T F R A : Type 0} (K : Kind T F R A) (t : T) (octets : List ℕ) where
-  -- The decoder's answer has its cause, ..
-  pub judged : Judged K t octets (decoded K t octets)
-  unfolding decoded judgedOctets judgedAs compared
-  judged = formed (K .wellFormed t) refl
-    where
-      same : (a : A) → Holds K t a → K .readOctets (K .row t) (K .form t) octets ≡ some a
-          → (b : Bool) → eqList octets (K .encoding (K .row t) a) ≡ b
-          → Judged K t octets (cond b (done (K .textOf a) (K .count (K .row t) a)) (refused Refusal.Encoding))
-      same a h r true b = zero a h r (equal octets (K .encoding (K .row t) a) b)
-      same a h r false b = six a h r (λ q. let d = equal-test octets (K .encoding (K .row t) a) q in absurd (let z : _≡_ {A = ℕ} 0 1 = cc in omega arith))
+-- The answer to a value that was read: 4, 5, 6, or the result.
+abbrev pub answered : Bool → Bool → Bool → List ℕ → Bits → Answer
+answered exists inside own result bits =
+    cond exists (cond inside (cond own (done result bits) (refused Refusal.Encoding)) (refused Refusal.Membership)) (refused Refusal.Existence)
 
-      inside : (a : A) → K .wellFormed t ≡ true → K .readOctets (K .row t) (K .form t) octets ≡ some a → K .exists a ≡ true
-          → (b : Bool) → K .inType t a ≡ b → Judged K t octets (cond b (compared K t octets a) (refused Refusal.Membership))
-      inside a w r e true b = same a (record { formed = w; real = e; inside = b }) r (eqList octets (K .encoding (K .row t) a)) refl
-      inside a w r e false b = five a w r e b
+module _ {T F R A : Type 0} (K : Kind T F R A) (t : T) (input : List ℕ) where
+  -- A type that no settings give is 1, whatever the input.
+  pub ill-formed : K .wellFormed t ≡ false → (encoded K t input ≡ refused Refusal.Settings) × (decoded K t input ≡ refused Refusal.Settings)
+  unfolding encoded decoded
+  ill-formed w = (simp w, simp w)
 
-      real : (a : A) → K .wellFormed t ≡ true → K .readOctets (K .row t) (K .form t) octets ≡ some a
-          → (b : Bool) → K .exists a ≡ b → Judged K t octets (cond b (cond (K .inType t a) (compared K t octets a) (refused Refusal.Membership)) (refused Refusal.Existence))
-      real a w r true b = inside a w r b (K .inType t a) refl
-      real a w r false b = four a w r b
+  -- Under any other, what is not read is 3, and a value is judged by the tests in their order.
+  module _ (w : K .wellFormed t ≡ true) where
+    pub encoded-none : K .readText (K .form t) input ≡ none → encoded K t input ≡ refused Refusal.Form
+    unfolding encoded judgedText
+    encoded-none r = simp (w, r)
 
-      reads : K .wellFormed t ≡ true → (o : Option A) → K .readOctets (K .row t) (K .form t) octets ≡ o → Judged K t octets (judgedOctets K t octets o)
-      reads w none r = three w r
-      reads w (some a) r = real a w r (K .exists a) refl
+    pub encoded-some : (a : A) → K .readText (K .form t) input ≡ some a
+        → encoded K t input ≡ answered (K .exists a) (K .inType t a) true (K .encoding (K .row t) a) (K .count (K .row t) a)
+    unfolding encoded judgedText judgedAs
+    encoded-some a r = simp (w, r)
 
-      formed : (b : Bool) → K .wellFormed t ≡ b
-          → Judged K t octets (cond b (judgedOctets K t octets (K .readOctets (K .row t) (K .form t) octets)) (refused Refusal.Settings))
-      formed true b = reads b (K .readOctets (K .row t) (K .form t) octets) refl
-      formed false b = one b
+    pub decoded-none : K .readOctets (K .row t) (K .form t) input ≡ none → decoded K t input ≡ refused Refusal.Form
+    unfolding decoded judgedOctets
+    decoded-none r = simp (w, r)
 
-  -- .. and no other answer has one.
-  pub judged-only : (answer : Answer) → Judged K t octets answer → decoded K t octets ≡ answer
-  unfolding decoded judgedOctets judgedAs compared
-  judged-only answer (one w) = simp w
-  judged-only answer (three w r) = simp (w, r)
-  judged-only answer (four a w r e) = simp (w, r, e)
-  judged-only answer (five a w r e i) = simp (w, r, e, i)
-  judged-only answer (six a h r n) = go (eqList octets (K .encoding (K .row t) a)) refl
-    where
-      go : (b : Bool) → eqList octets (K .encoding (K .row t) a) ≡ b → decoded K t octets ≡ refused Refusal.Encoding
-      go true b = absurd (n (equal octets (K .encoding (K .row t) a) b))
-      go false b = simp (h .formed, r, h .real, h .inside, b)
-  judged-only answer (zero a h r q) = simp (h .formed, r, h .real, h .inside, equal-test octets (K .encoding (K .row t) a) q)
+    pub decoded-judged : (a : A) → K .readOctets (K .row t) (K .form t) input ≡ some a → decoded K t input ≡ judgedAs K t a (compared K t input a)
+    unfolding decoded judgedOctets
+    decoded-judged a r = simp (w, r)
+
+    pub decoded-some : (a : A) → K .readOctets (K .row t) (K .form t) input ≡ some a
+        → decoded K t input ≡ answered (K .exists a) (K .inType t a) (eqList input (K .encoding (K .row t) a)) (K .textOf a) (K .count (K .row t) a)
+    unfolding decoded judgedOctets judgedAs compared
+    decoded-some a r = simp (w, r)

@@ -33,7 +33,7 @@ use Rattle.rows.specs.Readings.{differenceAt, natural, readChoice, readClock, r
 use Rattle.kinds.specs.Coding.{compared, decoded, encoded, judgedAs, judgedOctets, judgedText}
 use Rattle.per.specs.Per.{countOf, encodingOf}
 use Rattle.answers.specs.Counts.{octetsFor}
-use Rattle.codec.specs.Coding.{derDecode, derEncode, perDecode, perEncode}
+use Rattle.exchanges.specs.Coding.{derDecode, derEncode, perDecode, perEncode}
 use Rattle.der.specs.Elements.{contentsOf, element, elementOf, without}
 use Rattle.der.specs.Readings.{allDigits, digitsOnly, readElement, separated}
 use Rattle.lines.specs.Lines.{cutAgain, fromHex, hexDigit, hexNumber, replyOf, toHex, worked}

@@ -25,22 +25,19 @@ use Rattle.unpacking.specs.Unpacked.{valueIn}
 use Rattle.unpacking.specs.declared.values.ValueRead.{ValueRead}
 use mathlib.Core.Option.{Option, some, none}
 use Rattle.kinds.specs.Coding.{judgedAs}
-use Rattle.kinds.specs.Causes.{Accepted, Holds, Judged, Lawful}
+use Rattle.kinds.specs.Lawful.{Accepted, Holds, Lawful}
 use Rattle.kinds.proofs.Laws.Coding as Coding
-use Rattle.encodings.proofs.Laws.Encodings.{answerOf, answerWith, decoded-short, encoded-admitted, held-by, judged-as, text-read}
-use Rattle.per.specs.Per.{ofBits, encodingOf, countOf, per, perEncoded, perDecoded}
+use Rattle.encodings.proofs.Laws.Encodings.{admissionAnswer, answerWith, decoded-short, encoded-admitted, held-by, judged-as, text-read}
+use Rattle.per.specs.Per.{ofBits, encodingOf, inPer, per, perEncoded, perDecoded}
 use Rattle.per.proofs.Laws.Carried.{held-carried}
 use Rattle.per.proofs.Laws.Packed.{encoding-short}
 
-abbrev pub bitsGiven : YearRow → Form → List ℕ → Option Value
-bitsGiven row form octets = ofBits (readOctets row form octets)
-
 octets-read : (t : Ty) (v : Value) → Holds per t v → ofBits (readOctets (yearRowOf t) (formOf t) (encodingOf (yearRowOf t) v)) ≡ some v
 unfolding encodingOf
-octets-read t v h = rw (← in-type t v (h .inside) .0) (ap ofBits (read-octets (yearRowOf t) v (held-carried t v (held-by yearRowOf encodingOf countOf bitsGiven t v h))))
+octets-read t v h = rw (← in-type t v (h .inside) .0) (ap ofBits (read-octets (yearRowOf t) v (held-carried t v (held-by inPer t v h))))
 
 pub per-lawful : Lawful per
-per-lawful = record { text-own = λ t v h. text-read yearRowOf encodingOf countOf bitsGiven t v h canonical; octets-own = octets-read }
+per-lawful = record { text-own = λ t v h. text-read inPer t v h canonical; octets-own = octets-read }
 
 -- Whatever is accepted is the encoding of the value returned.
 pub per-accepted : (t : Ty) (octets text : List ℕ) {bits : Bits} → perDecoded t octets ≡ done text bits → Accepted per t octets text
@@ -49,14 +46,6 @@ per-accepted t octets text {bits} e = Coding.decoded-only per t octets text bits
 -- Two values of one type never share an encoding.
 pub per-one-encoding : (t : Ty) (a b : Value) → Holds per t a → Holds per t b → encodingOf (yearRowOf t) a ≡ encodingOf (yearRowOf t) b → a ≡ b
 per-one-encoding t a b h k e = Coding.one-encoding per per-lawful t a b h k e
-
--- ---- "Each is given exactly then."
-
-pub per-judged : (t : Ty) (octets : List ℕ) → Judged per t octets (perDecoded t octets)
-per-judged t octets = Coding.judged per t octets
-
-pub per-judged-only : (t : Ty) (octets : List ℕ) (answer : Answer) → Judged per t octets answer → perDecoded t octets ≡ answer
-per-judged-only t octets answer j = Coding.judged-only per t octets answer j
 
 -- A value is read exactly where a loose spelling of it stands in front, whatever follows.
 pub per-reads : (row : YearRow) (form : Form) (octets : List ℕ) (v : Value) → ofBits (readOctets row form octets) ≡ some v
@@ -85,12 +74,12 @@ bits-read (found v rest) = refl
 bits-read nothing = refl
 
 -- The encoder's answer is that of an admission.
-pub per-admitted : (t : Ty) (text : List ℕ) → perEncoded t text ≡ answerOf encodingOf countOf (yearRowOf t) (admitted t text)
-per-admitted = encoded-admitted yearRowOf encodingOf countOf bitsGiven
+pub per-admitted : (t : Ty) (text : List ℕ) → perEncoded t text ≡ admissionAnswer inPer (yearRowOf t) (admitted t text)
+per-admitted = encoded-admitted inPer
 
 -- What is judged of a value, as the code has it.
 pub per-judged-as : (t : Ty) (v : Value) (answer : Answer) → judgedAs per t v answer ≡ answerWith answer (judged t v)
-per-judged-as = judged-as yearRowOf encodingOf countOf bitsGiven
+per-judged-as = judged-as inPer
 
 -- ---- how long results are
 
@@ -101,4 +90,4 @@ per-encoded-short t text result bits e =
     rw (← q) (encoding-short (yearRowOf t) (x .0))
 
 pub per-decoded-short : (t : Ty) (octets result : List ℕ) (bits : Bits) → perDecoded t octets ≡ done result bits → length result ≤ 52
-per-decoded-short = decoded-short yearRowOf encodingOf countOf bitsGiven
+per-decoded-short = decoded-short inPer

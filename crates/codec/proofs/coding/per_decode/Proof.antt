@@ -1,7 +1,7 @@
 -- `coding::per_decode` meets its contract: the type's refusal, or what is answered under the type.
 use mathlib.Core.Path.{_∙_, refl, sym}
 use Rattle.answers.specs.Outcomes.{outcomeOf, roomOf}
-use Rattle.codec.specs.Coding.{perDecode}
+use Rattle.exchanges.specs.Coding.{perDecode}
 use borrow.Author.Needs.{needs}
 use Rattle.codec.proofs.coding.per_decode.Statement.{statement}
 use Rattle.codec.proofs.coding.per_decode.Tie as tie

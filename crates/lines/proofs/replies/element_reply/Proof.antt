@@ -1,7 +1,7 @@
 -- `replies::element_reply` meets its contract: every result has its place in the buffer.
 use Rattle.types.specs.Types.{noLimits}
 use Rattle.lines.specs.Lines.{asText}
-use Rattle.codec.proofs.Laws.Results.{der-decode-most}
+use Rattle.exchanges.proofs.Laws.Results.{der-decode-most}
 use Rattle.lines.proofs.Laws.Replies.{answer-put, number-most, length-most}
 use borrow.Author.Needs.{needs}
 use Rattle.lines.proofs.replies.element_reply.Statement.{statement}

@@ -2,7 +2,7 @@
 use native.Mathlib.Omega.{arith}
 use Rattle.types.specs.Types.{noLimits}
 use Rattle.lines.specs.Lines.{toHex}
-use Rattle.codec.proofs.Laws.Results.{per-encode-most}
+use Rattle.exchanges.proofs.Laws.Results.{per-encode-most}
 use Rattle.lines.proofs.Laws.Replies.{answer-put, number-most, length-most}
 use borrow.Author.Needs.{needs}
 use Rattle.lines.proofs.replies.per_reply.Statement.{statement}

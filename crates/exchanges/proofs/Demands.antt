@@ -1,0 +1,213 @@
+-- The theorems: each claim of specs/Demands.antt is proved under its name. What they rest on stands in Laws/Exchanges and Laws/Causes, for any kind.
+use mathlib.Core.Logic.{_≢_}
+use mathlib.Core.Path.{_≡_, refl, ap, sym, _∙_}
+use mathlib.Core.Bool.{Bool, true, false}
+use mathlib.Core.List.{List}
+use mathlib.Core.Option.{Option, some, none}
+use Prim.Native.Nat.{ℕ}
+use native.Mathlib.Omega.{arith}
+use lib.Dec.{eqb}
+use borrow.Author.Tests.{eq-eqb, ne-eqb}
+use Rattle.answers.specs.Outcomes.{Answer, refused, outcomeOf}
+use Rattle.answers.specs.declared.refusals.Refusal.{Refusal}
+use Rattle.calendar.proofs.Laws.Bools.{both}
+use Rattle.texts.specs.Texts.{readOf, render, textOf}
+use Rattle.texts.specs.declared.values.Value.{Value}
+use Rattle.types.specs.Types.{formOf, typeNumber, wellFormed}
+use Rattle.types.specs.declared.types.Limits.{Limits}
+use Rattle.types.specs.declared.types.TypeRead.{TypeRead}
+use Rattle.types.specs.declared.types.«Type».{«Type» as Ty}
+use Rattle.settings.specs.TypeTexts.{typeOf}
+use Rattle.settings.proofs.Laws.WellFormed.{read-well-formed}
+use Rattle.values.specs.Admission.{admissionNumber, admitted, judged, judgementNumber}
+use Rattle.values.specs.declared.admission.Admission.{Admission}
+use Rattle.values.specs.declared.admission.Judgement.{Judgement}
+use Rattle.fields.specs.Readings.{Found, found, nothing}
+use Rattle.rows.specs.Fields.{yearRowOf}
+use Rattle.rows.specs.Readings.{readOctets}
+use Rattle.rows.proofs.Laws.SameRows.{same-form, same-rows}
+use Rattle.unpacking.specs.Unpacked.{valueIn, valueNumber}
+use Rattle.kinds.specs.Coding.{compared, decoded, encoded}
+use Rattle.kinds.specs.Kinds.{holds, readNumber}
+use Rattle.kinds.specs.Lawful.{Holds}
+use Rattle.kinds.proofs.Laws.Coding as Coding
+use Rattle.encodings.specs.Encodings.{Encoding, encodedBy, ofText}
+use Rattle.encodings.proofs.Laws.Encodings.{admissionAnswer, answerWith, encoded-admitted, judged-as, noted}
+use Rattle.per.specs.Per.{countOf, encodingOf, inPer, per, perDecoded, perEncoded}
+use Rattle.per.proofs.Laws.Per.{per-lawful}
+use Rattle.der.specs.Der.{der, derDecoded, derEncoded, inDer}
+use Rattle.der.specs.Elements.{element, elementOf}
+use Rattle.der.proofs.Laws.Der.{der-lawful, element-gives, one-tag}
+use Rattle.exchanges.specs.Coding.{derDecode, derEncode, perDecode, perEncode, underType}
+use Rattle.exchanges.specs.Limits.{limitsGiven, limitsNumber, underLimits, windowGiven}
+use Rattle.exchanges.specs.Demands.{Entry, per-encode, per-decode, der-encode, der-decode, answerInC, answerOf, encodes, decodes, BitsTold, Demand1, Demand1InC, Demand2InDer, Demand2InPer, Demand3InDer, Demand3InPer, LimitsFromC, LimitsTold, SevenNumbers, TextsTold, TypesTold, ValuesTold}
+use Rattle.exchanges.specs.declared.limits.LimitsRead.{LimitsRead}
+use Rattle.exchanges.proofs.Laws.Causes.{number-given}
+use Rattle.exchanges.proofs.Laws.Exchanges.{comes-back, meets-2, meets-3, no-answer, written}
+
+-- ---- demand 1
+
+pub demand-1 : Demand1
+demand-1 e settings limits input room = comes-back (answerOf e settings limits input) room
+
+pub demand-1-c : Demand1InC
+demand-1-c e settings limits input room = comes-back (answerInC e settings limits input) room
+
+pub limits-from-c : LimitsFromC
+unfolding limitsGiven windowGiven
+limits-from-c given = record {
+  limits-are = λ z.
+  let g : limitsGiven given ≡ LimitsRead.Limits (record { window = windowGiven given; hour24 = eqb (given .no24) 0 }) = simp (eq-eqb (given .counts) 0 z) in (
+    record { window = windowGiven given; hour24 = eqb (given .no24) 0 },
+    record {
+      every-year = λ y. simp (eq-eqb (given .years) 0 y);
+      window-is = λ y. simp (ne-eqb (given .years) 0 y);
+      hour-24 = eq-eqb (given .no24) 0;
+      no-hour-24 = ne-eqb (given .no24) 0;
+    },
+    λ e settings input. rw g,
+  );
+  no-count = λ z e settings input room. no-answer (answerInC e settings given input) room Refusal.Settings (rw (ne-eqb (given .counts) 0 z));
+}
+
+-- ---- demand 2
+
+pub demand-2-per : Demand2InPer
+unfolding perEncode perDecode encodingOf countOf
+demand-2-per settings limits t e =
+    meets-2 per per-lawful render (noted inPer) t (read-well-formed limits settings t e) (perEncode settings limits) (perDecode settings limits)
+    (λ l. rw e) (λ l. rw e)
+
+pub demand-2-der : Demand2InDer
+unfolding derEncode derDecode elementOf element
+demand-2-der settings limits t e =
+    meets-2 der der-lawful render (noted inDer) t (read-well-formed limits settings t e) (derEncode settings limits) (derDecode settings limits)
+    (λ l. rw e) (λ l. rw e)
+
+-- ---- demand 3
+
+-- a type that is read, and a value that it holds
+held : {R : Type 0} (E : Encoding R) (t : Ty) (v : Value) → wellFormed t ≡ true → holds (encodedBy E) t v ≡ true → Holds (encodedBy E) t v
+held E t v f h = let b = both _ _ h in record { formed = f; real = b .0; inside = b .1 }
+
+number-none : (o : Option Value) → readNumber o ≡ 3 → o ≡ none
+number-none (some v) e = absurd (omega arith)
+number-none none e = refl
+
+pub demand-3-per : Demand3InPer
+unfolding perEncode perDecode
+demand-3-per settings₁ limits₁ w e₁ settings₂ limits₂ r e₂ v h s room ok q n =
+    let k = read-well-formed limits₁ settings₁ w e₁ in
+    let f = same-form w r q n in
+    let o : readNumber (per .readText (formOf r) (textOf v)) ≡ 0 = rw (← f) (ap readNumber (per-lawful .text-own w v (held inPer w v k h))) in (
+      o,
+      meets-3 per per-lawful render (noted inPer) w r k (read-well-formed limits₂ settings₂ r e₂) (same-rows w r q) v h
+          (λ z. absurd (let c : 0 ≡ 3 = sym o ∙ z in omega arith))
+          (perEncode settings₁ limits₁ (render s v)) room
+          (written per per-lawful render (noted inPer) w k (perEncode settings₁ limits₁) (perDecode settings₁ limits₁) (λ l. rw e₁) (λ l. rw e₁) v h s) ok
+          (perDecode settings₂ limits₂) (λ l. rw e₂),
+    )
+
+pub demand-3-der : Demand3InDer
+unfolding derEncode derDecode
+demand-3-der settings₁ limits₁ w e₁ settings₂ limits₂ r e₂ v h s room ok q =
+    let k = read-well-formed limits₁ settings₁ w e₁ in
+    let n : w .name ≡ r .name = one-tag (w .name) (r .name) q in
+    meets-3 der der-lawful render (noted inDer) w r k (read-well-formed limits₂ settings₂ r e₂) n v h
+    (λ z. rw (← n) (element-gives w v (held inDer w v k h) (formOf r) ∙ number-none (ofText (readOf (formOf r) (textOf v))) z))
+    (derEncode settings₁ limits₁ (render s v)) room
+    (written der der-lawful render (noted inDer) w k (derEncode settings₁ limits₁) (derDecode settings₁ limits₁) (λ l. rw e₁) (λ l. rw e₁) v h s) ok
+    (derDecode settings₂ limits₂) (λ l. rw e₂)
+
+-- ---- the seven numbers
+
+pub seven-numbers : SevenNumbers
+unfolding perEncode perDecode derEncode derDecode
+seven-numbers per-encode settings limits input room =
+    number-given per encodes settings limits input room (perEncode settings limits input) refl (λ t q. read-well-formed limits settings t q)
+seven-numbers per-decode settings limits input room =
+    number-given per decodes settings limits input room (perDecode settings limits input) refl (λ t q. read-well-formed limits settings t q)
+seven-numbers der-encode settings limits input room =
+    number-given der encodes settings limits input room (derEncode settings limits input) refl (λ t q. read-well-formed limits settings t q)
+seven-numbers der-decode settings limits input room =
+    number-given der decodes settings limits input room (derDecode settings limits input) refl (λ t q. read-well-formed limits settings t q)
+
+-- ---- the answers that are enums
+
+abbrev codedAt : Entry → Ty → List ℕ → Answer
+codedAt per-encode t input = perEncoded t input
+codedAt per-decode t input = perDecoded t input
+codedAt der-encode t input = derEncoded t input
+codedAt der-decode t input = derDecoded t input
+
+under-type : (e : Entry) (settings : List ℕ) (limits : Limits) (input : List ℕ)
+    → answerOf e settings limits input ≡ underType (typeOf limits settings) λ t. codedAt e t input
+unfolding perEncode perDecode derEncode derDecode
+under-type per-encode settings limits input = refl
+under-type per-decode settings limits input = refl
+under-type der-encode settings limits input = refl
+under-type der-decode settings limits input = refl
+
+pub types-told : TypesTold
+unfolding outcomeOf
+types-told e settings limits input room n =
+    ap (λ (a : Answer). outcomeOf a room .number) (under-type e settings limits input) ∙ go (typeOf limits settings) n
+  where
+    go : (r : TypeRead) → typeNumber r ≢ 0 → outcomeOf (underType r λ t. codedAt e t input) room .number ≡ typeNumber r
+    go (TypeRead.«Type» t) n = absurd (n refl)
+    go TypeRead.Unreadable n = refl
+    go TypeRead.NoRow n = refl
+
+module _ (settings : List ℕ) (limits : Limits) (t : Ty) (q : typeOf limits settings ≡ TypeRead.«Type» t) (input room : List ℕ) where
+  -- what is answered under the type that is read
+  under-read : (e : Entry) (a : Answer) → codedAt e t input ≡ a → outcomeOf (answerOf e settings limits input) room .number ≡ outcomeOf a room .number
+  under-read e a c = ap (λ (b : Answer). outcomeOf b room .number) (under-type e settings limits input ∙ rw q c)
+
+admission-told : {R : Type 0} (E : Encoding R) (row : R) (a : Admission) (room : List ℕ) → admissionNumber a ≢ 0
+    → outcomeOf (admissionAnswer E row a) room .number ≡ admissionNumber a
+unfolding outcomeOf
+admission-told E row (Admission.Value v) room n = absurd (n refl)
+admission-told E row (Admission.Refused why) room n = refl
+
+pub texts-told : TextsTold
+texts-told settings limits t q text room n = (
+  under-read settings limits t q text room per-encode _ (encoded-admitted inPer t text) ∙ admission-told inPer (inPer .row t) (admitted t text) room n,
+  under-read settings limits t q text room der-encode _ (encoded-admitted inDer t text) ∙ admission-told inDer (inDer .row t) (admitted t text) room n,
+)
+
+pub bits-told : BitsTold
+unfolding outcomeOf
+bits-told settings limits t q octets room n = go (readOctets (yearRowOf t) (formOf t) octets) refl n
+  where
+    go : (g : Found Bool Value) → readOctets (yearRowOf t) (formOf t) octets ≡ g → valueNumber (valueIn g) ≢ 0
+        → outcomeOf (perDecode settings limits octets) room .number ≡ valueNumber (valueIn (readOctets (yearRowOf t) (formOf t) octets))
+    go (found v rest) r n = absurd (n refl)
+    go nothing r n =
+        under-read settings limits t q octets room per-decode _ (Coding.decoded-none per t octets (read-well-formed limits settings t q) (rw r))
+        ∙ sym (ap (λ (g : Found Bool Value). valueNumber (valueIn g)) r)
+
+judgement-told : (c : Answer) (j : Judgement) (room : List ℕ) → judgementNumber j ≢ 0 → outcomeOf (answerWith c j) room .number ≡ judgementNumber j
+unfolding outcomeOf
+judgement-told c Judgement.Held room n = absurd (n refl)
+judgement-told c (Judgement.Refused why) room n = refl
+
+pub values-told : ValuesTold
+values-told settings limits t q octets room v n = (
+  λ r.
+  under-read settings limits t q octets room per-decode _ (Coding.decoded-judged per t octets k v r ∙ judged-as inPer t v _)
+  ∙ judgement-told _ (judged t v) room n,
+  λ r.
+  under-read settings limits t q octets room der-decode _ (Coding.decoded-judged der t octets k v r ∙ judged-as inDer t v _)
+  ∙ judgement-told _ (judged t v) room n,
+)
+  where
+    k : wellFormed t ≡ true
+    k = read-well-formed limits settings t q
+
+pub limits-told : LimitsTold
+unfolding outcomeOf
+limits-told e settings limits input room n = go (limitsGiven limits) n
+  where
+    go : (r : LimitsRead) → limitsNumber r ≢ 0 → outcomeOf (underLimits r λ l. answerOf e settings l input) room .number ≡ limitsNumber r
+    go (LimitsRead.Limits l) n = absurd (n refl)
+    go LimitsRead.Misplaced n = refl

@@ -1,0 +1,5 @@
+-- The laws under the demands, how long results are, and the tables of checked values.
+pub mod Exchanges
+pub mod Causes
+pub mod Results
+pub mod Checked

@@ -1,0 +1,6 @@
+// What the entry points answer, and the demands on them, as definitions with their theorems. The crate `codec` has the
+// entry points.
+pub mod limits;
+
+pub use limits::GivenLimits;
+pub use limits::LimitsRead;
