@@ -1,6 +1,6 @@
 """Compares each row of the proved tables with the independent reference: the calendar's years and dates, the
-types and their rows, the texts under types, fields, the rows of Table 2, unaligned PER, DER and the lines. Prints
-the first row that differs and exits 1, or prints nothing."""
+types and their rows, the texts under types, fields, the rows of Table 2, elements, unaligned PER, DER and the
+lines. Prints the first row that differs and exits 1, or prints nothing."""
 
 import re
 import sys
@@ -51,14 +51,21 @@ ALL_FIELDS = (
 WIDTHS = {field.highest - field.lowest + 1: field.width for field in ALL_FIELDS}
 
 TABLE_2 = ROOT / "crates/rows/proofs/Laws/Checked.antt"
-A_DATE = r"YearRow\.(\w+) \(Date\.(\w+) \(yearAt \((\w+ \d+)\)\)((?: \d+)*)\)"
+A_DATE = r"\(Date\.(\w+) \(yearAt \((\w+ \d+)\)\)((?: \d+)*)\)"
 A_TIME = r"\(Clock\.(\w+)((?: \d+)+)\) (\d+) (\d+) \(?(Zone\.\w+|(?:ahead|behind) \d+ \d+)\)?"
-DATED = re.compile(rf'^ +(date|looseDate) {A_DATE} "(\w+)" (\d+) ∷', re.M)
+DATED = re.compile(rf'^ +(date|looseDate) YearRow\.(\w+) {A_DATE} "(\w+)" (\d+) ∷', re.M)
 TIMED = re.compile(rf'^ +(time|looseTime) {A_TIME} "(\w+)" (\d+) ∷', re.M)
-BOTH = re.compile(rf'^ +both {A_DATE} {A_TIME} "(\w+)" (\d+) ∷', re.M)
+BOTH = re.compile(rf'^ +both YearRow\.(\w+) {A_DATE} {A_TIME} "(\w+)" (\d+) ∷', re.M)
 NO_DATE = re.compile(r'^ +noDate YearRow\.(\w+) DateForm\.(\w+) "(\w*)" ∷', re.M)
 NO_TIME = re.compile(r'^ +noTime ClockForm\.(\w+) (\d+) ZoneForm\.(\w+) "(\w*)" ∷', re.M)
 YEAR_ROWS = {"Year": frozenset({"Basic", "Proleptic"}), "AnyYear": frozenset({"Negative", "L5"})}
+
+ELEMENTS = ROOT / "crates/der/proofs/Laws/Checked.antt"
+DATE_ELEMENT = re.compile(rf'^ +(date|looseDate) Name\.(\w+) {A_DATE} "(\w+)" ∷', re.M)
+TIME_ELEMENT = re.compile(rf'^ +(time|looseTime) Name\.(\w+) {A_TIME} "(\w+)" ∷', re.M)
+BOTH_ELEMENT = re.compile(rf'^ +(both|looseBoth) Name\.(\w+) {A_DATE} {A_TIME} "(\w+)" ∷', re.M)
+NO_ELEMENT = re.compile(r'^ +no(Date|Time|Both) Name\.(\w+) "(\w*)" ∷', re.M)
+NAMED = {"Listed": None, "Date": "DATE", "TimeOfDay": "TIME-OF-DAY", "DateTime": "DATE-TIME"}
 
 CODINGS = ROOT / "crates/exchanges/proofs/Laws/Checked.antt"
 VALUE = re.compile(r'^ +value "([^"]*)" "([^"]*)" (\d) "([^"]*)" (\d+) "([^"]*)" ∷', re.M)
@@ -233,6 +240,30 @@ def check_rows():
         expect(TABLE_2, f"{clock} {octets}", None, per.read_octets(t, bytes.fromhex(octets)))
 
 
+def check_element(kind, name, t, value, octets):
+    """The element of a value, and back; one that is not written back only."""
+    t, octets = t._replace(name=NAMED[name]), bytes.fromhex(octets)
+    expect(ELEMENTS, f"{value} {octets}", not kind.startswith("loose"), der.write(t, value)[0] == octets)
+    expect(ELEMENTS, octets, value, der.read_octets(t, octets))
+
+
+def check_elements():
+    """Elements of each tag, those that are read and not written, and octets that give nothing at a name's form."""
+    dates, times, both, unreadable = rows(ELEMENTS, DATE_ELEMENT, TIME_ELEMENT, BOTH_ELEMENT, NO_ELEMENT)
+    for kind, name, form, year, fields, octets in dates:
+        check_element(kind, name, row_type(None, form), texts.Value(row_date(form, year, fields), None), octets)
+    for kind, name, clock, *time, octets in times:
+        value = texts.Value(None, row_time(*time))
+        check_element(kind, name, row_type(None, None, clock, time[1], value.time.zone), value, octets)
+    for kind, name, form, year, fields, clock, *time, octets in both:
+        value = texts.Value(row_date(form, year, fields), row_time(*time))
+        check_element(kind, name, row_type(None, form, clock, time[1], value.time.zone), value, octets)
+    for form, name, octets in unreadable:
+        date, clock, zone = "YMD" if form != "Time" else None, *(("HMS", "L") if form != "Date" else (None, None))
+        t = row_type(None, date, clock, "0", zone)._replace(name=NAMED[name])
+        expect(ELEMENTS, f"{form} {octets}", None, der.read_octets(t, bytes.fromhex(octets)))
+
+
 def check_both_ways(coding, type_text, text, number, octets, bits, canonical, limits=settings.NO_LIMITS):
     """What an encoder makes of a text, and after 0 what the decoder makes of its octets."""
     said = (int(number), bytes.fromhex(octets), int(bits))
@@ -274,5 +305,6 @@ if __name__ == "__main__":
     check_times()
     check_fields()
     check_rows()
+    check_elements()
     check_codings()
     check_lines()
