@@ -56,9 +56,14 @@ A_TIME = r"\(Clock\.(\w+)((?: \d+)+)\) (\d+) (\d+) \(?(Zone\.\w+|(?:ahead|behind
 DATED = re.compile(rf'^ +(date|looseDate) YearRow\.(\w+) {A_DATE} "(\w+)" (\d+) ∷', re.M)
 TIMED = re.compile(rf'^ +(time|looseTime) {A_TIME} "(\w+)" (\d+) ∷', re.M)
 BOTH = re.compile(rf'^ +both YearRow\.(\w+) {A_DATE} {A_TIME} "(\w+)" (\d+) ∷', re.M)
+TYPED = re.compile(rf'^ +typed(?:Date|Both) (\w+) {A_DATE}(?: {A_TIME})? "(\w+)" (\d+) ∷', re.M)
 NO_DATE = re.compile(r'^ +noDate YearRow\.(\w+) DateForm\.(\w+) "(\w*)" ∷', re.M)
 NO_TIME = re.compile(r'^ +noTime ClockForm\.(\w+) (\d+) ZoneForm\.(\w+) "(\w*)" ∷', re.M)
 YEAR_ROWS = {"Year": frozenset({"Basic", "Proleptic"}), "AnyYear": frozenset({"Negative", "L5"})}
+YEAR_SETTINGS = {
+    "basic": frozenset({"Basic"}), "proleptic": frozenset({"Proleptic"}), "plain": YEAR_ROWS["Year"],
+    "negative": frozenset({"Negative"}), "five": frozenset({"L5"}), "signed": YEAR_ROWS["AnyYear"],
+}
 
 ELEMENTS = ROOT / "crates/der/proofs/Laws/Checked.antt"
 DATE_ELEMENT = re.compile(rf'^ +(date|looseDate) Name\.(\w+) {A_DATE} "(\w+)" ∷', re.M)
@@ -222,8 +227,8 @@ def check_row(t, value, octets, said, loose):
 
 
 def check_rows():
-    """Values of each row of Table 2, loose spellings of some, and octets that give nothing."""
-    dated, timed, both, no_date, no_time = rows(TABLE_2, DATED, TIMED, BOTH, NO_DATE, NO_TIME)
+    """Values of each row of Table 2, some under a type, loose spellings, and octets that give nothing."""
+    dated, timed, both, typed, no_date, no_time = rows(TABLE_2, DATED, TIMED, BOTH, TYPED, NO_DATE, NO_TIME)
     for kind, years, form, year, fields, *coding in dated:
         value = texts.Value(row_date(form, year, fields), None)
         check_row(row_type(years, form), value, *coding, kind == "looseDate")
@@ -233,6 +238,10 @@ def check_rows():
     for years, form, year, fields, clock, *time, octets, count in both:
         value = texts.Value(row_date(form, year, fields), row_time(*time))
         check_row(row_type(years, form, clock, time[1], value.time.zone), value, octets, count, False)
+    for years, form, year, fields, clock, *time, octets, count in typed:
+        value = texts.Value(row_date(form, year, fields), row_time(*time) if clock else None)
+        t = row_type(None, form, clock or None, time[1] or "0", value.time.zone if clock else None)
+        check_row(t._replace(years=YEAR_SETTINGS[years]), value, octets, count, False)
     for years, form, octets in no_date:
         expect(TABLE_2, f"{form} {octets}", None, per.read_octets(row_type(years, form), bytes.fromhex(octets)))
     for clock, digits, zone, octets in no_time:

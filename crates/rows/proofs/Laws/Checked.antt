@@ -10,7 +10,7 @@ use lib.ListN.{drop}
 use Rattle.answers.specs.Counts.{octetsFor}
 use Rattle.calendar.specs.Years.{astronomicalOf, yearAt}
 use Rattle.calendar.specs.declared.dates.Date.{Date}
-use Rattle.texts.specs.Forms.{valueForm}
+use Rattle.texts.specs.Forms.{dateForm, timeForm, valueForm}
 use Rattle.texts.specs.declared.forms.ClockForm.{ClockForm}
 use Rattle.texts.specs.declared.forms.DateForm.{DateForm}
 use Rattle.texts.specs.declared.forms.Form.{Form}
@@ -20,13 +20,18 @@ use Rattle.texts.specs.declared.values.Clock.{Clock}
 use Rattle.texts.specs.declared.values.Time.{Time}
 use Rattle.texts.specs.declared.values.Value.{Value}
 use Rattle.texts.specs.declared.values.Zone.{Zone}
+use Rattle.types.specs.declared.types.DateType.{DateType}
+use Rattle.types.specs.declared.types.Name.{Name}
+use Rattle.types.specs.declared.types.Parts.{Parts}
+use Rattle.types.specs.declared.types.Window.{Window}
+use Rattle.types.specs.declared.types.Years.{Years}
 use Rattle.fields.specs.Bits.{bitsOf, numberIn, packed, octetsOf, unpacked}
 use Rattle.fields.specs.Integers.{half, within, fewest, twos, fromTwos}
 use Rattle.fields.specs.Fields.{binaryDigits, width, fieldBits, layout, fieldWidth, bitCount}
 use Rattle.fields.specs.Readings.{Found, found, nothing, _>>=_, aRanged, aFree, require, readBits, readRanged, readFree, run}
 use Rattle.fields.proofs.Laws.Quoted.{hex}
 use Rattle.rows.specs.declared.YearRow.{YearRow}
-use Rattle.rows.specs.Fields.{otherYear, choiceOfYear, yearFields, dayFields, dateFields, clockFields, longFraction, fractionFields, hoursField, differenceFields, zoneFields, timeFields, fieldsOf}
+use Rattle.rows.specs.Fields.{yearRowOf, otherYear, choiceOfYear, yearFields, dayFields, dateFields, clockFields, longFraction, fractionFields, hoursField, differenceFields, zoneFields, timeFields, fieldsOf}
 use Rattle.rows.specs.Readings.{readChoice, readYear, readDay, readDate, readClock, natural, readExtended, readFraction, readMinutes, differenceAt, readZone, readTime, readValue, readOctets}
 
 -- Local time so far ahead of UTC, and so far behind it.
@@ -40,11 +45,47 @@ behind hours minutes = Zone.LD (record { behind = true; hours = hours; minutes =
 abbrev at : Clock → ℕ → ℕ → Zone → Time
 at clock digits fraction zone = record { clock = clock; digits = digits; fraction = fraction; zone = zone }
 
--- a row of years and a value, its octets and their bit count
+-- Year settings that a type names, and the row of years of a type with a date, and of one with a time besides.
+abbrev plainYears : Bool → Bool → Years
+plainYears basic proleptic = Years.Plain (record { basic = basic; proleptic = proleptic })
+
+abbrev signedYears : Bool → Bool → Years
+signedYears negative five = Years.Signed (record { negative = negative; five = five })
+
+abbrev basic : Years
+basic = plainYears true false
+
+abbrev proleptic : Years
+proleptic = plainYears false true
+
+abbrev plain : Years
+plain = plainYears true true
+
+abbrev negative : Years
+negative = signedYears true false
+
+abbrev five : Years
+five = signedYears false true
+
+abbrev signed : Years
+signed = signedYears true true
+
+abbrev datesOf : Years → Date → DateType
+datesOf years d = record { form = dateForm d; years = years; window = Window.Every }
+
+abbrev dateRow : Years → Date → YearRow
+dateRow years d = yearRowOf (record { name = Name.Listed; parts = Parts.Date (datesOf years d) })
+
+abbrev bothRow : Years → Date → Time → YearRow
+bothRow years d t = yearRowOf (record { name = Name.Listed; parts = Parts.DateTime (datesOf years d) (record { form = timeForm t; hour24 = true }) })
+
+-- a row of years, or a type's Year settings, and a value, its octets and their bit count
 data Row : Type 0 where
   date : YearRow → Date → String → ℕ → Row
   time : Clock → ℕ → ℕ → Zone → String → ℕ → Row
   both : YearRow → Date → Clock → ℕ → ℕ → Zone → String → ℕ → Row
+  typedDate : Years → Date → String → ℕ → Row
+  typedBoth : Years → Date → Clock → ℕ → ℕ → Zone → String → ℕ → Row
 
 -- The octets of a value, their bit count, and what octets give at its form.
 data Coding : Type 0 where
@@ -65,6 +106,8 @@ said [] = []
 said (date y d octets count ∷ l) = saysOf (Value.Date d) (hex octets) count ∷ said l
 said (time c n f z octets count ∷ l) = saysOf (Value.Time (at c n f z)) (hex octets) count ∷ said l
 said (both y d c n f z octets count ∷ l) = saysOf (Value.DateTime d (at c n f z)) (hex octets) count ∷ said l
+said (typedDate y d octets count ∷ l) = saysOf (Value.Date d) (hex octets) count ∷ said l
+said (typedBoth y d c n f z octets count ∷ l) = saysOf (Value.DateTime d (at c n f z)) (hex octets) count ∷ said l
 
 -- .. and what the definitions make of it.
 makesOf : YearRow → Value → List ℕ → Coding
@@ -77,6 +120,8 @@ made [] = []
 made (date y d octets count ∷ l) = makesOf y (Value.Date d) (hex octets) ∷ made l
 made (time c n f z octets count ∷ l) = makesOf YearRow.Year (Value.Time (at c n f z)) (hex octets) ∷ made l
 made (both y d c n f z octets count ∷ l) = makesOf y (Value.DateTime d (at c n f z)) (hex octets) ∷ made l
+made (typedDate y d octets count ∷ l) = makesOf (dateRow y d) (Value.Date d) (hex octets) ∷ made l
+made (typedBoth y d c n f z octets count ∷ l) = makesOf (bothRow y d (at c n f z)) (Value.DateTime d (at c n f z)) (hex octets) ∷ made l
 
 -- ---- Y: the years.
 
@@ -202,6 +247,29 @@ differences-checked : made differences ≡ said differences
 unfolding differences said made
 differences-checked = refl
 
+-- ---- The years of a type.
+
+typed : List Row
+typed =
+    -- "Year, Basic or Proleptic: two choice bits."
+    typedDate basic (Date.Y (yearAt (pos 2006))) "04" 6 ∷
+    typedDate proleptic (Date.Y (yearAt (pos 0))) "C04000" 18 ∷
+    typedDate plain (Date.Y (yearAt (pos 1749))) "8000" 10 ∷
+    typedBoth basic (Date.YMD (yearAt (pos 2006)) 6 13) (Clock.H 15) 0 0 Zone.L "0558F0" 20 ∷
+    typedBoth proleptic (Date.Y (yearAt (pos 0))) (Clock.H 15) 0 0 Zone.L "C0401E" 23 ∷
+    typedBoth plain (Date.Y (yearAt (pos 2006))) (Clock.H 15) 0 0 Zone.L "05E0" 11 ∷
+    -- "Year, Negative or L5: a free integer, no choice bits."
+    typedDate negative (Date.Y (yearAt (negsuc 0))) "01FF" 16 ∷
+    typedDate five (Date.Y (yearAt (pos 10000))) "022710" 24 ∷
+    typedDate signed (Date.Y (yearAt (negsuc 9999))) "02D8F0" 24 ∷
+    typedBoth negative (Date.Y (yearAt (negsuc 0))) (Clock.H 15) 0 0 Zone.L "01FF78" 21 ∷
+    typedBoth five (Date.Y (yearAt (pos 10000))) (Clock.H 15) 0 0 Zone.L "02271078" 29 ∷
+    typedBoth signed (Date.YMD (yearAt (negsuc 0)) 6 13) (Clock.H 15) 0 0 Zone.L "01FF563C" 30 ∷ []
+
+types-checked : made typed ≡ said typed
+unfolding typed said made
+types-checked = refl
+
 -- ---- Dates with times.
 
 pairs : List Row
@@ -291,6 +359,8 @@ unreadable =
     noDate YearRow.Year DateForm.YWD "057E" ∷
     -- hour 25, minute 60, second 61, fraction 1000 after a 0 bit, minutes 60 of a difference
     noTime ClockForm.H 0 ZoneForm.L "C8" ∷
+    noTime ClockForm.HM 0 ZoneForm.L "C800" ∷
+    noTime ClockForm.HMS 0 ZoneForm.L "C80000" ∷
     noTime ClockForm.HM 0 ZoneForm.L "0780" ∷
     noTime ClockForm.HMS 0 ZoneForm.L "078000" ∷
     noTime ClockForm.HMS 0 ZoneForm.L "001E80" ∷
@@ -303,7 +373,8 @@ unreadable =
     -- "a fraction negative or of more than n digits"
     noTime ClockForm.H 2 ZoneForm.L "7C07FC" ∷
     noTime ClockForm.H 1 ZoneForm.L "780A" ∷
-    noTime ClockForm.H 2 ZoneForm.L "7C080258" ∷ []
+    noTime ClockForm.H 2 ZoneForm.L "7C080258" ∷
+    noTime ClockForm.H 9 ZoneForm.L "7C10EE6B2800" ∷ []
 
 nothing-checked : reads unreadable ≡ gives unreadable
 unfolding unreadable gives reads
