@@ -3,6 +3,7 @@ ghost use mathlib.Core.Path.{_≡_};
 ghost use Prim.Native.Nat.{_+_, _≤_};
 ghost use Rattle.calendar.specs.Years.{yearAt};
 ghost use Rattle.texts.specs.declared.forms.DateForm.{DateForm};
+ghost use Rattle.fields.specs.Bits.{unpacked};
 ghost use Rattle.fields.specs.Fields.{width as widthOf};
 ghost use Rattle.fields.specs.Readings.{run};
 ghost use Rattle.rows.specs.Readings.{readChoice, readYear, readDay, readDate};
@@ -63,20 +64,20 @@ fn chosen_year(octets: &[u8], at: Bits, choice: u32) -> IntegerStep
     }
 }
 
-// The year of a row.
-fn year(octets: &[u8], at: Bits, row: YearRow) -> IntegerStep
-    requires { ⌜ at .count ≤ 150 ⌝ }
-    ensures { λ r. ⌜ seenInteger (now (octets .entry)) r ≡ run (readYear row) (rest (now (octets .entry)) at) ⌝ }
-    ensures { λ r. ⌜ integerPlace r ≤ at .count + 42 ⌝ }
+// The year of a row, at the front.
+fn year(octets: &[u8], row: YearRow) -> IntegerStep
+    ensures { λ r. ⌜ seenInteger (now (octets .entry)) r ≡ run (readYear row) (unpacked (now (octets .entry))) ⌝ }
+    ensures { λ r. ⌜ integerPlace r ≤ 42 ⌝ }
 {
+    let front = Bits { count: 0 };
     match row {
         YearRow::Year => {
-            let Step::Got(choice, next) = ranged(octets, at, Bits { count: 2 }, 4) else {
+            let Step::Got(choice, next) = ranged(octets, front, Bits { count: 2 }, 4) else {
                 return IntegerStep::Nothing;
             };
             chosen_year(octets, next, choice)
         }
-        YearRow::AnyYear => free(octets, at),
+        YearRow::AnyYear => free(octets, front),
     }
 }
 
@@ -141,13 +142,12 @@ fn day(octets: &[u8], at: Bits, year: Year, form: DateForm) -> DateStep
     }
 }
 
-// A date of a form.
-pub(crate) fn date(octets: &[u8], at: Bits, row: YearRow, form: DateForm) -> DateStep
-    requires { ⌜ at .count ≤ 50 ⌝ }
-    ensures { λ r. ⌜ seenDate (now (octets .entry)) r ≡ run (readDate row form) (rest (now (octets .entry)) at) ⌝ }
-    ensures { λ r. ⌜ datePlace r ≤ at .count + 51 ⌝ }
+// A date of a form, at the front.
+pub(crate) fn date(octets: &[u8], row: YearRow, form: DateForm) -> DateStep
+    ensures { λ r. ⌜ seenDate (now (octets .entry)) r ≡ run (readDate row form) (unpacked (now (octets .entry))) ⌝ }
+    ensures { λ r. ⌜ datePlace r ≤ 51 ⌝ }
 {
-    let IntegerStep::Got(years, next) = year(octets, at, row) else {
+    let IntegerStep::Got(years, next) = year(octets, row) else {
         return DateStep::Nothing;
     };
     day(octets, next, year_at(years), form)
