@@ -1,6 +1,6 @@
 """Compares each row of the proved tables with the independent reference: the calendar's years and dates, the
-types and their rows, the texts under types, unaligned PER, DER and the lines. Prints the first row that differs and exits
-1, or prints nothing."""
+types and their rows, the texts under types, fields, the rows of Table 2, elements, unaligned PER, DER and the
+lines. Prints the first row that differs and exits 1, or prints nothing."""
 
 import re
 import sys
@@ -38,6 +38,39 @@ TIMES = ROOT / "crates/values/proofs/Laws/CheckedExistence.antt"
 LOCAL = re.compile(r"^ +time \(local \(Clock\.\w+((?: \d+)+)\) (\d+) (\d+)\) (true|false) ∷", re.M)
 ZONED = re.compile(r"^ +time \((ahead|behind) (\d+) (\d+)\) (true|false) ∷", re.M)
 UTC = re.compile(r"^ +time utc (true|false) ∷", re.M)
+
+FIELDS = ROOT / "crates/fields/proofs/Laws/Checked.antt"
+RANGED = re.compile(r'^ +ranged (\d+) (\d+) (\d+) "(\w+)" ∷', re.M)
+INTEGER = re.compile(r'^ +(integer|longer) \((\w+ \d+)\) "(\w+)" ∷', re.M)
+NO_RANGED = re.compile(r'^ +noRanged (\d+) "(\w*)" ∷', re.M)
+NO_INTEGER = re.compile(r'^ +noInteger "(\w*)" ∷', re.M)
+ALL_FIELDS = (
+    *per.NEAR_YEARS, per.MONTH, per.DAY, per.ORDINAL_DAY, per.WEEK, per.WEEKDAY, *per.DAY_TIME_FIELDS,
+    per.SHORT_FRACTION, per.DIFFERENCE_HOURS, per.DIFFERENCE_MINUTES,
+)
+WIDTHS = {field.highest - field.lowest + 1: field.width for field in ALL_FIELDS}
+
+TABLE_2 = ROOT / "crates/rows/proofs/Laws/Checked.antt"
+A_DATE = r"\(Date\.(\w+) \(yearAt \((\w+ \d+)\)\)((?: \d+)*)\)"
+A_TIME = r"\(Clock\.(\w+)((?: \d+)+)\) (\d+) (\d+) \(?(Zone\.\w+|(?:ahead|behind) \d+ \d+)\)?"
+DATED = re.compile(rf'^ +(date|looseDate) YearRow\.(\w+) {A_DATE} "(\w+)" (\d+) ∷', re.M)
+TIMED = re.compile(rf'^ +(time|looseTime) {A_TIME} "(\w+)" (\d+) ∷', re.M)
+BOTH = re.compile(rf'^ +both YearRow\.(\w+) {A_DATE} {A_TIME} "(\w+)" (\d+) ∷', re.M)
+TYPED = re.compile(rf'^ +typed(?:Date|Both) (\w+) {A_DATE}(?: {A_TIME})? "(\w+)" (\d+) ∷', re.M)
+NO_DATE = re.compile(r'^ +noDate YearRow\.(\w+) DateForm\.(\w+) "(\w*)" ∷', re.M)
+NO_TIME = re.compile(r'^ +noTime ClockForm\.(\w+) (\d+) ZoneForm\.(\w+) "(\w*)" ∷', re.M)
+YEAR_ROWS = {"Year": frozenset({"Basic", "Proleptic"}), "AnyYear": frozenset({"Negative", "L5"})}
+YEAR_SETTINGS = {
+    "basic": frozenset({"Basic"}), "proleptic": frozenset({"Proleptic"}), "plain": YEAR_ROWS["Year"],
+    "negative": frozenset({"Negative"}), "five": frozenset({"L5"}), "signed": YEAR_ROWS["AnyYear"],
+}
+
+ELEMENTS = ROOT / "crates/der/proofs/Laws/Checked.antt"
+DATE_ELEMENT = re.compile(rf'^ +(date|looseDate) Name\.(\w+) {A_DATE} "(\w+)" ∷', re.M)
+TIME_ELEMENT = re.compile(rf'^ +(time|looseTime) Name\.(\w+) {A_TIME} "(\w+)" ∷', re.M)
+BOTH_ELEMENT = re.compile(rf'^ +(both|looseBoth) Name\.(\w+) {A_DATE} {A_TIME} "(\w+)" ∷', re.M)
+NO_ELEMENT = re.compile(r'^ +no(Date|Time|Both) Name\.(\w+) "(\w*)" ∷', re.M)
+NAMED = {"Listed": None, "Date": "DATE", "TimeOfDay": "TIME-OF-DAY", "DateTime": "DATE-TIME"}
 
 CODINGS = ROOT / "crates/exchanges/proofs/Laws/Checked.antt"
 VALUE = re.compile(r'^ +value "([^"]*)" "([^"]*)" (\d) "([^"]*)" (\d+) "([^"]*)" ∷', re.M)
@@ -137,6 +170,109 @@ def check_times():
         expect(TIMES, "utc", said, truth(time_exists((12,), 0, 0, "Z")))
 
 
+def taken(octets, take):
+    """What is taken from the front of octets, and how many bits; None where they are not readable."""
+    bits = per.Bits(bytes.fromhex(octets))
+    try:
+        return take(bits), bits.place
+    except per.Unreadable:
+        return None
+
+
+def check_fields():
+    """Numbers of the fields' ranges and free integers, both ways, and octets that give none."""
+    ranged, integers, no_ranged, no_integer = rows(FIELDS, RANGED, INTEGER, NO_RANGED, NO_INTEGER)
+    for numbers in ranged:
+        count, number, width = map(int, numbers[:3])
+        field, octets = per.Field(0, count - 1, WIDTHS[count]), numbers[3]
+        expect(FIELDS, numbers, bytes.fromhex(octets), per.fill(per.field_bits(field, number)))
+        expect(FIELDS, numbers, (number, width), taken(octets, lambda bits: bits.take_field(field)))
+    for kind, text, octets in integers:
+        written = per.fill(per.free_integer_bits(integer(text))) == bytes.fromhex(octets)
+        expect(FIELDS, f"{text} {octets}", kind == "integer", written)
+        expect(FIELDS, octets, (integer(text), 4 * len(octets)), taken(octets, per.Bits.take_free_integer))
+    for count, octets in no_ranged:
+        field = per.Field(0, int(count) - 1, WIDTHS[int(count)])
+        expect(FIELDS, f"{count} {octets}", None, taken(octets, lambda bits: bits.take_field(field)))
+    for octets in no_integer:
+        expect(FIELDS, octets, None, taken(octets, per.Bits.take_free_integer))
+
+
+def row_date(form, year, fields):
+    """A date of the table of rows."""
+    return texts.Date(form, integer(year), tuple(map(int, fields.split())))
+
+
+def row_time(fields, digits, fraction, zone):
+    """A time of the table of rows."""
+    kind, *difference = zone.split()
+    if difference:
+        difference = texts.Difference(b"-" if kind == "behind" else b"+", *map(int, difference))
+    digits = texts.Fraction(int(fraction), int(digits)) if digits != "0" else None
+    return texts.Time(tuple(map(int, fields.split())), digits, "LD" if difference else kind[-1], difference or None)
+
+
+def row_type(year_row=None, form=None, clock=None, digits="0", zone=None):
+    """A type with what Table 2 looks at."""
+    time = clock + "F" if clock and digits != "0" else clock
+    return settings.Type(None, form, YEAR_ROWS.get(year_row), time, int(digits), zone, None, None, False)
+
+
+def check_row(t, value, octets, said, loose):
+    """The octets of a value with their bit count, and back; those of a loose spelling back only."""
+    written = per.write(t, value)
+    said_written = (bytes.fromhex(octets), int(said))
+    expect(TABLE_2, value, True if loose else said_written, written[0] != said_written[0] if loose else written)
+    expect(TABLE_2, value, (value, int(said)), taken(octets, lambda bits: per.take_value(bits, t)))
+
+
+def check_rows():
+    """Values of each row of Table 2, some under a type, loose spellings, and octets that give nothing."""
+    dated, timed, both, typed, no_date, no_time = rows(TABLE_2, DATED, TIMED, BOTH, TYPED, NO_DATE, NO_TIME)
+    for kind, years, form, year, fields, *coding in dated:
+        value = texts.Value(row_date(form, year, fields), None)
+        check_row(row_type(years, form), value, *coding, kind == "looseDate")
+    for kind, clock, *time, octets, count in timed:
+        value = texts.Value(None, row_time(*time))
+        check_row(row_type(None, None, clock, time[1], value.time.zone), value, octets, count, kind == "looseTime")
+    for years, form, year, fields, clock, *time, octets, count in both:
+        value = texts.Value(row_date(form, year, fields), row_time(*time))
+        check_row(row_type(years, form, clock, time[1], value.time.zone), value, octets, count, False)
+    for years, form, year, fields, clock, *time, octets, count in typed:
+        value = texts.Value(row_date(form, year, fields), row_time(*time) if clock else None)
+        t = row_type(None, form, clock or None, time[1] or "0", value.time.zone if clock else None)
+        check_row(t._replace(years=YEAR_SETTINGS[years]), value, octets, count, False)
+    for years, form, octets in no_date:
+        expect(TABLE_2, f"{form} {octets}", None, per.read_octets(row_type(years, form), bytes.fromhex(octets)))
+    for clock, digits, zone, octets in no_time:
+        t = row_type(None, None, clock, digits, zone)
+        expect(TABLE_2, f"{clock} {octets}", None, per.read_octets(t, bytes.fromhex(octets)))
+
+
+def check_element(kind, name, t, value, octets):
+    """The element of a value, and back; one that is not written back only."""
+    t, octets = t._replace(name=NAMED[name]), bytes.fromhex(octets)
+    expect(ELEMENTS, f"{value} {octets}", not kind.startswith("loose"), der.write(t, value)[0] == octets)
+    expect(ELEMENTS, octets, value, der.read_octets(t, octets))
+
+
+def check_elements():
+    """Elements of each tag, those that are read and not written, and octets that give nothing at a name's form."""
+    dates, times, both, unreadable = rows(ELEMENTS, DATE_ELEMENT, TIME_ELEMENT, BOTH_ELEMENT, NO_ELEMENT)
+    for kind, name, form, year, fields, octets in dates:
+        check_element(kind, name, row_type(None, form), texts.Value(row_date(form, year, fields), None), octets)
+    for kind, name, clock, *time, octets in times:
+        value = texts.Value(None, row_time(*time))
+        check_element(kind, name, row_type(None, None, clock, time[1], value.time.zone), value, octets)
+    for kind, name, form, year, fields, clock, *time, octets in both:
+        value = texts.Value(row_date(form, year, fields), row_time(*time))
+        check_element(kind, name, row_type(None, form, clock, time[1], value.time.zone), value, octets)
+    for form, name, octets in unreadable:
+        date, clock, zone = "YMD" if form != "Time" else None, *(("HMS", "L") if form != "Date" else (None, None))
+        t = row_type(None, date, clock, "0", zone)._replace(name=NAMED[name])
+        expect(ELEMENTS, f"{form} {octets}", None, der.read_octets(t, bytes.fromhex(octets)))
+
+
 def check_both_ways(coding, type_text, text, number, octets, bits, canonical, limits=settings.NO_LIMITS):
     """What an encoder makes of a text, and after 0 what the decoder makes of its octets."""
     said = (int(number), bytes.fromhex(octets), int(bits))
@@ -176,5 +312,8 @@ if __name__ == "__main__":
     check_types()
     check_texts()
     check_times()
+    check_fields()
+    check_rows()
+    check_elements()
     check_codings()
     check_lines()

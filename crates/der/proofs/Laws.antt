@@ -3,3 +3,4 @@ pub mod Contents
 pub mod Readings
 pub mod Der
 pub mod Loose
+pub mod Checked

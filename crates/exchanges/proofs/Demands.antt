@@ -57,16 +57,16 @@ pub limits-from-c : LimitsFromC
 unfolding limitsGiven windowGiven
 limits-from-c given = record {
   limits-are = λ z.
-  let g : limitsGiven given ≡ LimitsRead.Limits (record { window = windowGiven given; hour24 = eqb (given .no24) 0 }) = simp (eq-eqb (given .counts) 0 z) in (
-    record { window = windowGiven given; hour24 = eqb (given .no24) 0 },
-    record {
-      every-year = λ y. simp (eq-eqb (given .years) 0 y);
-      window-is = λ y. simp (ne-eqb (given .years) 0 y);
-      hour-24 = eq-eqb (given .no24) 0;
-      no-hour-24 = ne-eqb (given .no24) 0;
-    },
-    λ e settings input. rw g,
-  );
+      let g : limitsGiven given ≡ LimitsRead.Limits (record { window = windowGiven given; hour24 = eqb (given .no24) 0 }) = simp (eq-eqb (given .counts) 0 z) in (
+        record { window = windowGiven given; hour24 = eqb (given .no24) 0 },
+        record {
+          every-year = λ y. simp (eq-eqb (given .years) 0 y);
+          window-is = λ y. simp (ne-eqb (given .years) 0 y);
+          hour-24 = eq-eqb (given .no24) 0;
+          no-hour-24 = ne-eqb (given .no24) 0;
+        },
+        λ e settings input. rw g,
+      );
   no-count = λ z e settings input room. no-answer (answerInC e settings given input) room Refusal.Settings (rw (ne-eqb (given .counts) 0 z));
 }
 
@@ -194,11 +194,11 @@ judgement-told c (Judgement.Refused why) room n = refl
 pub values-told : ValuesTold
 values-told settings limits t q octets room v n = (
   λ r.
-  under-read settings limits t q octets room per-decode _ (Coding.decoded-judged per t octets k v r ∙ judged-as inPer t v _)
-  ∙ judgement-told _ (judged t v) room n,
+      under-read settings limits t q octets room per-decode _ (Coding.decoded-judged per t octets k v r ∙ judged-as inPer t v _)
+      ∙ judgement-told _ (judged t v) room n,
   λ r.
-  under-read settings limits t q octets room der-decode _ (Coding.decoded-judged der t octets k v r ∙ judged-as inDer t v _)
-  ∙ judgement-told _ (judged t v) room n,
+      under-read settings limits t q octets room der-decode _ (Coding.decoded-judged der t octets k v r ∙ judged-as inDer t v _)
+      ∙ judgement-told _ (judged t v) room n,
 )
   where
     k : wellFormed t ≡ true

@@ -4,3 +4,4 @@ pub mod Found
 pub mod Exact
 pub mod Widths
 pub mod SameRows
+pub mod Checked

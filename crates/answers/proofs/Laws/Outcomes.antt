@@ -1,7 +1,7 @@
 -- The seven numbers, and what a number says of the result and of the room.
 use mathlib.Core.Path.{_≡_, refl, sym, ap, _∙_}
 use mathlib.Core.Bool.{Bool, true, false, cond}
-use mathlib.Core.List.{List, _++_}
+use mathlib.Core.List.{List, [], _∷_, _++_}
 use mathlib.Core.Logic.{_⊎_, inl, inr}
 use Prim.Native.Nat.{ℕ, suc, _+_, _≤_, _<_}
 use native.Mathlib.Nat.{le-of-lt}
@@ -53,6 +53,14 @@ number-range Refusal.Existence = omega arith
 number-range Refusal.Membership = omega arith
 number-range Refusal.Encoding = omega arith
 number-range Refusal.Room = omega arith
+
+-- In the order of the paper's table: "settings unreadable", "two lists that don't make one row", "not of the type's form", "no such date,
+-- time or difference", "exists, but not in the type", "not what the encoder writes", "the lent room is shorter than the result".
+pub seven-numbers : _≡_ {A = List ℕ}
+    (numberOf Refusal.Settings ∷ numberOf Refusal.Rows ∷ numberOf Refusal.Form ∷ numberOf Refusal.Existence ∷ numberOf Refusal.Membership
+    ∷ numberOf Refusal.Encoding ∷ numberOf Refusal.Room ∷ [])
+    (1 ∷ 2 ∷ 3 ∷ 4 ∷ 5 ∷ 6 ∷ 7 ∷ [])
+seven-numbers = refl
 
 -- An answer meets a lent room in one of three ways: the result has its place, the room is shorter, or there is no result.
 module _ (result room : List ℕ) (bits : Bits) where

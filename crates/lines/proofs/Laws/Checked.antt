@@ -82,11 +82,37 @@ rows =
     []
 
 allRight : List Row → Bool
+unfolding upTo quotient remainder divisible monthLengthOf daysOfYears newYear weekOf weekOneOf weeksOf astronomicalOf yearAt leapOf yearLengthOf putAfter putDate getWeek getAfter getDate putDigits getDigits getField leading render getValue readUpTo putClock getAfterHours getClock putFraction getFraction putZone getMinutes getDifference getZone putTime getTime sizeIn yearDigits yearText signedFits getSigned getYear splitOn addPair addPairs datedList timedList complete completed listOf eqList placeFrom fractionNumber pairOf dateAt clockAt zoneAt listsOf sameButYear yearFamily oneRow equalLists allOf distinct usable member yearsOf timeAt listType joined typeOf placed limitedTo wellFormed existsClock existsFraction existsDifference existsTime sameDateForm sameTimeForm between admitsDate admitsTime inType bitsOf numberIn packed octetsOf unpacked half within fewest twos fromTwos binaryDigits width fieldBits layout fieldWidth bitCount _>>=_ aRanged aFree require readBits readRanged readFree run otherYear choiceOfYear yearFields dayFields dateFields clockFields longFraction fractionFields hoursField differenceFields zoneFields timeFields fieldsOf readChoice readYear readDay readDate readClock natural readExtended readFraction readMinutes differenceAt readZone readTime readValue readOctets judgedAs judgedText encoded compared judgedOctets decoded encodingOf countOf octetsFor spanTo perEncode perDecode derEncode derDecode without contentsOf element elementOf allDigits digitsOnly separated readElement hexDigit toHex hexNumber fromHex worked cutAgain replyOf
 allRight [] = true
 allRight (line text zeros reply ∷ l) =
     eqList (replyOf (bytes text ++ replicate zeros 48)) (bytes reply ++ bytes "\n") && allRight l
 
 -- Each line gives its reply, newline included.
 checked-lines : allRight rows ≡ true
-unfolding rows allRight upTo quotient remainder divisible monthLengthOf daysOfYears newYear weekOf weekOneOf weeksOf astronomicalOf yearAt leapOf yearLengthOf putAfter putDate getWeek getAfter getDate putDigits getDigits getField leading render getValue readUpTo putClock getAfterHours getClock putFraction getFraction putZone getMinutes getDifference getZone putTime getTime sizeIn yearDigits yearText signedFits getSigned getYear splitOn addPair addPairs datedList timedList complete completed listOf eqList placeFrom fractionNumber pairOf dateAt clockAt zoneAt listsOf sameButYear yearFamily oneRow equalLists allOf distinct usable member yearsOf timeAt listType joined typeOf placed limitedTo wellFormed existsClock existsFraction existsDifference existsTime sameDateForm sameTimeForm between admitsDate admitsTime inType bitsOf numberIn packed octetsOf unpacked half within fewest twos fromTwos binaryDigits width fieldBits layout fieldWidth bitCount _>>=_ aRanged aFree require readBits readRanged readFree run otherYear choiceOfYear yearFields dayFields dateFields clockFields longFraction fractionFields hoursField differenceFields zoneFields timeFields fieldsOf readChoice readYear readDay readDate readClock natural readExtended readFraction readMinutes differenceAt readZone readTime readValue readOctets judgedAs judgedText encoded compared judgedOctets decoded encodingOf countOf octetsFor spanTo perEncode perDecode derEncode derDecode without contentsOf element elementOf allDigits digitsOnly separated readElement hexDigit toHex hexNumber fromHex worked cutAgain replyOf
+unfolding rows allRight
 checked-lines = refl
+
+-- "whole pairs of hex digits"
+digits : List Row
+digits =
+    -- each digit is written, in capitals, and read, in either case
+    line "per;DATE-TIME;1753-10-07T15:27:46" 0 "0 8124CF6EE0" ∷
+    line "per;DATE-TIME;1826-05-22T15:27:46" 0 "0 9352AF6EE0" ∷
+    line "per;DATE-TIME;1780-07-25T15:27:46" 0 "0 87DB0F6EE0" ∷
+    line "unper;DATE-TIME;8124CF6EE0" 0 "0 1753-10-07T15:27:46" ∷
+    line "unper;DATE-TIME;9352AF6EE0" 0 "0 1826-05-22T15:27:46" ∷
+    line "unper;DATE-TIME;87DB0F6EE0" 0 "0 1780-07-25T15:27:46" ∷
+    line "unper;DATE-TIME;8124cf6ee0" 0 "0 1753-10-07T15:27:46" ∷
+    line "unper;DATE-TIME;9352af6ee0" 0 "0 1826-05-22T15:27:46" ∷
+    line "unper;DATE-TIME;87db0f6ee0" 0 "0 1780-07-25T15:27:46" ∷
+    -- what stands before and behind the digits is none
+    line "unper;DATE;0/58" 0 "?" ∷
+    line "unper;DATE;0:58" 0 "?" ∷
+    line "unper;DATE;0@58" 0 "?" ∷
+    line "unper;DATE;0G58" 0 "?" ∷
+    line "unper;DATE;0`58" 0 "?" ∷
+    line "unper;DATE;0g58" 0 "?" ∷ []
+
+hex-checked : allRight digits ≡ true
+unfolding digits allRight
+hex-checked = refl
