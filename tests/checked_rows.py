@@ -22,6 +22,7 @@ DATE = re.compile(r"^ +date \(Date\.(\w+) \(yearAt \((\w+ \d+)\)\)((?: \d+)*)\) 
 TYPES = ROOT / "crates/settings/proofs/Laws/CheckedTypes.antt"
 TYPE = re.compile(r'^ +text "([^"]*)" (\w+) (\d) ∷', re.M)
 PAIR = re.compile(r'^ +pair "([^"]*)" "([^"]*)" (true|false) ∷', re.M)
+LIMITED = re.compile(r'^ +limited "([^"]*)" (\w+) "([^"]*)" (\w+) (true|false) ∷', re.M)
 COUNT = re.compile(r'^ +count "([^"]*)" (\d) ∷', re.M)
 LIMITS = {
     "noLimits": settings.NO_LIMITS,
@@ -95,13 +96,14 @@ def check_calendar():
 
 def check_types():
     """The number of each type's text, which types select the same rows, and their fraction digits."""
-    types, pairs, counts = rows(TYPES, TYPE, PAIR, COUNT)
+    types, pairs, limited, counts = rows(TYPES, TYPE, PAIR, LIMITED, COUNT)
     for text, limits, said in types:
         read = settings.read_type(text.encode(), LIMITS[limits])
         expect(TYPES, text, int(said), read if settings.is_refused(read) else 0)
-    for first, second, said in pairs:
-        alike = settings.same_rows(settings.read_type(first.encode()), settings.read_type(second.encode()))
-        expect(TYPES, f"{first} and {second}", said, truth(alike))
+    pairs = [(first, "noLimits", second, "noLimits", said) for first, second, said in pairs]
+    for first, upon, second, other, said in pairs + limited:
+        read = settings.read_type(first.encode(), LIMITS[upon]), settings.read_type(second.encode(), LIMITS[other])
+        expect(TYPES, f"{first} {upon} and {second} {other}", said, truth(settings.same_rows(*read)))
     for text, said in counts:
         expect(TYPES, text, int(said), settings.fraction_digits(settings.read_type(text.encode())))
 

@@ -1,6 +1,8 @@
 -- "A type may carry two restrictions": under limits a type carries exactly them, or one of them has no place; and the numbers of types.
-use mathlib.Core.Path.{_≡_, refl, sym}
+use mathlib.Core.Path.{_≡_, refl, sym, ap, _∙_}
 use mathlib.Core.Bool.{Bool, true, false, cond, _&&_, _||_}
+use Prim.Native.Nat.{ℕ}
+use native.Mathlib.Omega.{arith}
 use Rattle.calendar.specs.declared.years.Year.{Year}
 use Rattle.types.specs.Types.{everyYear, hasDate, hasTime, limitedTo, limitsOf, placed, restricted, typeNumber}
 use Rattle.types.specs.declared.types.DateType.{DateType}
@@ -52,11 +54,24 @@ limited-why limits t = go (t .parts) refl (limits .window) refl (limits .hour24)
 same-limits : (limits : Limits) (w : Window) (h : Bool) → limits .window ≡ w → limits .hour24 ≡ h → record { window = w; hour24 = h } ≡ limits
 same-limits limits w h e f = λ i. record { window = sym e i; hour24 = sym f i }
 
--- What a type carries is read from it again.
-pub limits-of : (limits : Limits) (p q : Parts) → Carried limits p q → limitsOf q ≡ limits
+limits-of : (limits : Limits) (p q : Parts) → Carried limits p q → limitsOf q ≡ limits
 limits-of limits p q (date d h) = same-limits limits (limits .window) true refl h
 limits-of limits p q (time t w) = same-limits limits Window.Every (limits .hour24) w refl
 limits-of limits p q (date-time d t) = same-limits limits (limits .window) (limits .hour24) refl refl
+
+abbrev partsIn : Parts → TypeRead → Parts
+partsIn p (TypeRead.«Type» t) = t .parts
+partsIn p TypeRead.Unreadable = p
+partsIn p TypeRead.NoRow = p
+
+-- A type under limits carries exactly these.
+pub limits-carried : (limits : Limits) (u t : «Type») → limitedTo limits u ≡ TypeRead.«Type» t → limitsOf (t .parts) ≡ limits
+limits-carried limits u t = go (limitedTo limits u) (limited-why limits u)
+  where
+    go : (r : TypeRead) → WhyLimited limits u r → r ≡ TypeRead.«Type» t → limitsOf (t .parts) ≡ limits
+    go r (carried p q i k) e = ap (λ (x : TypeRead). limitsOf (partsIn q x)) (sym e) ∙ limits-of limits p q k
+    go r (no-date lowest highest v w i) e = absurd (let z : _≡_ {A = ℕ} 0 1 = cc in omega arith)
+    go r (no-time d h i) e = absurd (let z : _≡_ {A = ℕ} 0 1 = cc in omega arith)
 
 -- "The seven numbers" of types: 1 for "settings ..; a restriction where it has no place", 2 for "two lists that don't make one row".
 pub numbers-told : (t : «Type») → (typeNumber (TypeRead.«Type» t) ≡ 0) × (typeNumber TypeRead.Unreadable ≡ 1) × (typeNumber TypeRead.NoRow ≡ 2)
