@@ -1,5 +1,5 @@
 """Compares each row of the proved tables with the independent reference: the calendar's years and dates, the
-types and their rows, the texts under types, unaligned PER, DER and the lines. Prints the first row that differs and exits
+settings lists, the types and their rows, the texts under types, unaligned PER, DER and the lines. Prints the first row that differs and exits
 1, or prints nothing."""
 
 import re
@@ -19,6 +19,9 @@ CALENDAR = ROOT / "crates/calendar/proofs/Laws/Checked.antt"
 YEAR = re.compile(r"^ +year \((\w+ \d+)\) (true|false) (\d+) (\d+) (\d+) ∷", re.M)
 DATE = re.compile(r"^ +date \(Date\.(\w+) \(yearAt \((\w+ \d+)\)\)((?: \d+)*)\) (true|false) ∷", re.M)
 
+LISTS = ROOT / "crates/lists/proofs/Laws/Checked.antt"
+LIST = re.compile(r'^ +list "([^"]*)" (\d+) (\d+) (\d+) (\d+) (\d+) ∷', re.M)
+
 TYPES = ROOT / "crates/settings/proofs/Laws/CheckedTypes.antt"
 TYPE = re.compile(r'^ +text "([^"]*)" (\w+) (\d) ∷', re.M)
 PAIR = re.compile(r'^ +pair "([^"]*)" "([^"]*)" (true|false) ∷', re.M)
@@ -30,10 +33,13 @@ LIMITS = {
     "noYears": settings.Limits((2001, 2000), False),
     "noHour24": settings.Limits(None, True),
     "bothLimits": settings.Limits((2000, 2099), True),
+    "early": settings.Limits((-44, -1), False),
+    "from1500": settings.Limits((1500, 1600), False),
 }
 
 TEXTS = ROOT / "crates/values/proofs/Laws/Checked.antt"
 TEXT = re.compile(r'^ +row "([^"]*)" "([^"]*)" (\d) "([^"]*)" ∷', re.M)
+UNDER = re.compile(r'^ +under "([^"]*)" (\w+) "([^"]*)" (\d) "([^"]*)" ∷', re.M)
 
 TIMES = ROOT / "crates/values/proofs/Laws/CheckedExistence.antt"
 LOCAL = re.compile(r"^ +time \(local \(Clock\.\w+((?: \d+)+)\) (\d+) (\d+)\) (true|false) ∷", re.M)
@@ -94,6 +100,24 @@ def check_calendar():
         expect(CALENDAR, f"{form} ({year}){fields}", said, truth(there))
 
 
+def setting_number(name, setting):
+    """The place of a setting in "Base settings", to which Fn adds n times 10; 0 where the list lacks it."""
+    if setting is None:
+        return 0
+    plain, digits = settings.split_time(setting)
+    whole = plain.removesuffix(b"F")
+    return digits * 10 + settings.SETTINGS[name].index(whole) + 1
+
+
+def check_lists():
+    """The number of each setting of a list; a list that is refused has none."""
+    (found,) = rows(LISTS, LIST)
+    for text, *said in found:
+        read = settings.read_list(text.encode()) or {}
+        numbers = [setting_number(name, read.get(name)) for name in settings.SETTINGS]
+        expect(LISTS, text, list(map(int, said)), numbers)
+
+
 def check_types():
     """The number of each type's text, which types select the same rows, and their fraction digits."""
     types, pairs, limited, counts = rows(TYPES, TYPE, PAIR, LIMITED, COUNT)
@@ -110,10 +134,11 @@ def check_types():
 
 def check_texts():
     """The number of each text under its type, and after 0 its canonical text."""
-    (found,) = rows(TEXTS, TEXT)
-    for type_text, text, number, canonical in found:
-        judged = texts.judge(type_text.encode(), settings.NO_LIMITS, text.encode())
-        expect(TEXTS, f"{type_text} {text}", (int(number), canonical.encode()), (judged[0], judged[1] or b""))
+    found, limited = rows(TEXTS, TEXT, UNDER)
+    found = [(type_text, "noLimits", *rest) for type_text, *rest in found]
+    for type_text, limits, text, number, canonical in found + limited:
+        judged = texts.judge(type_text.encode(), LIMITS[limits], text.encode())
+        expect(TEXTS, f"{type_text} {limits} {text}", (int(number), canonical.encode()), (judged[0], judged[1] or b""))
 
 
 def time_exists(fields, digits, fraction, zone, difference=None):
@@ -169,6 +194,7 @@ def check_lines():
 
 if __name__ == "__main__":
     check_calendar()
+    check_lists()
     check_types()
     check_texts()
     check_times()

@@ -5,3 +5,4 @@ pub mod Pieces
 pub mod Lists
 pub mod Order
 pub mod Spelled
+pub mod Checked
