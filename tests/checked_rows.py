@@ -19,6 +19,13 @@ CALENDAR = ROOT / "crates/calendar/proofs/Laws/Checked.antt"
 YEAR = re.compile(r"^ +year \((\w+ \d+)\) (true|false) (\d+) (\d+) (\d+) ∷", re.M)
 DATE = re.compile(r"^ +date \(Date\.(\w+) \(yearAt \((\w+ \d+)\)\)((?: \d+)*)\) (true|false) ∷", re.M)
 
+SHOWN_TEXTS = ROOT / "crates/texts/proofs/Laws/Checked.antt"
+SHOWN = re.compile(r'^ +shown (\(.*\)) "([^"]*)" refl refl ∷', re.M)
+SPELLED = re.compile(r'^ +spelled (\(.*\)) "([^"]*)" \(spelling (true|false) (true|false)\) refl ∷', re.M)
+NO_DATE = re.compile(r'^ +none DateForm\.(\w+) "([^"]*)" refl ∷', re.M)
+DATE_VALUE = re.compile(r"Date\.(\w+) \(yearAt \((\w+ \d+)\)\)((?: \d+)*)")
+TIME_VALUE = re.compile(r"time \(Clock\.(\w+)((?: \d+)+)\) (\d+) (\d+) \(?(?:Zone\.([LZ])|difference (true|false) (\d+) (\d+))")
+
 LISTS = ROOT / "crates/lists/proofs/Laws/Checked.antt"
 LIST = re.compile(r'^ +list "([^"]*)" (\d+) (\d+) (\d+) (\d+) (\d+) ∷', re.M)
 
@@ -98,6 +105,43 @@ def check_calendar():
     for form, year, fields, said in dates:
         there = gregorian.exists(form, integer(year), *map(int, fields.split()))
         expect(CALENDAR, f"{form} ({year}){fields}", said, truth(there))
+
+
+def shown_date(row):
+    """The date that a row has, with its settings; or nothing."""
+    found = DATE_VALUE.search(row)
+    if not found:
+        return None, ""
+    form, year, fields = found.groups()
+    return texts.Date(form, integer(year), tuple(map(int, fields.split()))), f" Date={form} Year=Basic"
+
+
+def shown_time(row):
+    """The time that a row has, with its settings; or nothing."""
+    found = TIME_VALUE.search(row)
+    if not found:
+        return None, ""
+    clock, fields, digits, number, zone, behind, hours, minutes = found.groups()
+    fraction = texts.Fraction(int(number), int(digits)) if digits != "0" else None
+    difference = None if zone else texts.Difference(b"-" if behind == "true" else b"+", int(hours), int(minutes))
+    time = texts.Time(tuple(map(int, fields.split())), fraction, zone or "LD", difference)
+    return time, f" Time={clock}{'F' + digits if fraction else ''} Local-or-UTC={zone or 'LD'}"
+
+
+def check_shown():
+    """A value's canonical text, other spellings of it, and texts that are not of a form."""
+    shown, spelled, none = rows(SHOWN_TEXTS, SHOWN, SPELLED, NO_DATE)
+    for row, text, *spelling in [(*each, "false", "false") for each in shown] + spelled:
+        (date, dated), (time, timed) = shown_date(row), shown_time(row)
+        basic = "-".join(name for name, part in (("Date", date), ("Time", time)) if part)
+        t = settings.read_type(f"Basic={basic}{dated}{timed}".encode())
+        value, expected = texts.Value(date, time), texts.Spelling(*(each == "true" for each in spelling))
+        expect(SHOWN_TEXTS, text, (value, expected), texts.read_text(t, text.encode()))
+        if not any(expected):
+            expect(SHOWN_TEXTS, text, text.encode(), texts.canonical_text(value))
+    for form, text in none:
+        t = settings.read_type(f"Basic=Date Date={form} Year=Basic".encode())
+        expect(SHOWN_TEXTS, text, None, texts.read_text(t, text.encode()))
 
 
 def setting_number(name, setting):
@@ -194,6 +238,7 @@ def check_lines():
 
 if __name__ == "__main__":
     check_calendar()
+    check_shown()
     check_lists()
     check_types()
     check_texts()
