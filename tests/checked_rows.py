@@ -22,7 +22,7 @@ DATE = re.compile(r"^ +date \(Date\.(\w+) \(yearAt \((\w+ \d+)\)\)((?: \d+)*)\) 
 SHOWN_TEXTS = ROOT / "crates/texts/proofs/Laws/Checked.antt"
 SHOWN = re.compile(r'^ +shown (\(.*\)) "([^"]*)" refl refl ∷', re.M)
 SPELLED = re.compile(r'^ +spelled (\(.*\)) "([^"]*)" \(spelling (true|false) (true|false)\) refl ∷', re.M)
-NO_DATE = re.compile(r'^ +none DateForm\.(\w+) "([^"]*)" refl ∷', re.M)
+NOT_OF_FORM = re.compile(r'^ +none DateForm\.(\w+) "([^"]*)" refl ∷', re.M)
 DATE_VALUE = re.compile(r"Date\.(\w+) \(yearAt \((\w+ \d+)\)\)((?: \d+)*)")
 TIME_VALUE = re.compile(r"time \(Clock\.(\w+)((?: \d+)+)\) (\d+) (\d+) \(?(?:Zone\.([LZ])|difference (true|false) (\d+) (\d+))")
 
@@ -165,7 +165,7 @@ def shown_time(row):
 
 def check_shown():
     """A value's canonical text, other spellings of it, and texts that are not of a form."""
-    shown, spelled, none = rows(SHOWN_TEXTS, SHOWN, SPELLED, NO_DATE)
+    shown, spelled, none = rows(SHOWN_TEXTS, SHOWN, SPELLED, NOT_OF_FORM)
     for row, text, *spelling in [(*each, "false", "false") for each in shown] + spelled:
         (date, dated), (time, timed) = shown_date(row), shown_time(row)
         basic = "-".join(name for name, part in (("Date", date), ("Time", time)) if part)
