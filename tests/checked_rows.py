@@ -1,6 +1,6 @@
 """Compares each row of the proved tables with the independent reference: the calendar's years and dates, the
-types and their rows, the texts under types, fields, the rows of Table 2, elements, unaligned PER, DER and the
-lines. Prints the first row that differs and exits 1, or prints nothing."""
+texts, settings lists, the types and their rows, the texts under types, fields, the rows of Table 2, elements, unaligned PER, DER
+and the lines. Prints the first row that differs and exits 1, or prints nothing."""
 
 import re
 import sys
@@ -19,9 +19,20 @@ CALENDAR = ROOT / "crates/calendar/proofs/Laws/Checked.antt"
 YEAR = re.compile(r"^ +year \((\w+ \d+)\) (true|false) (\d+) (\d+) (\d+) ∷", re.M)
 DATE = re.compile(r"^ +date \(Date\.(\w+) \(yearAt \((\w+ \d+)\)\)((?: \d+)*)\) (true|false) ∷", re.M)
 
+SHOWN_TEXTS = ROOT / "crates/texts/proofs/Laws/Checked.antt"
+SHOWN = re.compile(r'^ +shown (\(.*\)) "([^"]*)" refl refl ∷', re.M)
+SPELLED = re.compile(r'^ +spelled (\(.*\)) "([^"]*)" \(spelling (true|false) (true|false)\) refl ∷', re.M)
+NOT_OF_FORM = re.compile(r'^ +none DateForm\.(\w+) "([^"]*)" refl ∷', re.M)
+DATE_VALUE = re.compile(r"Date\.(\w+) \(yearAt \((\w+ \d+)\)\)((?: \d+)*)")
+TIME_VALUE = re.compile(r"time \(Clock\.(\w+)((?: \d+)+)\) (\d+) (\d+) \(?(?:Zone\.([LZ])|difference (true|false) (\d+) (\d+))")
+
+LISTS = ROOT / "crates/lists/proofs/Laws/Checked.antt"
+LIST = re.compile(r'^ +list "([^"]*)" (\d+) (\d+) (\d+) (\d+) (\d+) ∷', re.M)
+
 TYPES = ROOT / "crates/settings/proofs/Laws/CheckedTypes.antt"
 TYPE = re.compile(r'^ +text "([^"]*)" (\w+) (\d) ∷', re.M)
 PAIR = re.compile(r'^ +pair "([^"]*)" "([^"]*)" (true|false) ∷', re.M)
+LIMITED = re.compile(r'^ +limited "([^"]*)" (\w+) "([^"]*)" (\w+) (true|false) ∷', re.M)
 COUNT = re.compile(r'^ +count "([^"]*)" (\d) ∷', re.M)
 LIMITS = {
     "noLimits": settings.NO_LIMITS,
@@ -29,10 +40,13 @@ LIMITS = {
     "noYears": settings.Limits((2001, 2000), False),
     "noHour24": settings.Limits(None, True),
     "bothLimits": settings.Limits((2000, 2099), True),
+    "early": settings.Limits((-44, -1), False),
+    "from1500": settings.Limits((1500, 1600), False),
 }
 
 TEXTS = ROOT / "crates/values/proofs/Laws/Checked.antt"
 TEXT = re.compile(r'^ +row "([^"]*)" "([^"]*)" (\d) "([^"]*)" ∷', re.M)
+UNDER = re.compile(r'^ +under "([^"]*)" (\w+) "([^"]*)" (\d) "([^"]*)" ∷', re.M)
 
 TIMES = ROOT / "crates/values/proofs/Laws/CheckedExistence.antt"
 LOCAL = re.compile(r"^ +time \(local \(Clock\.\w+((?: \d+)+)\) (\d+) (\d+)\) (true|false) ∷", re.M)
@@ -75,7 +89,7 @@ NAMED = {"Listed": None, "Date": "DATE", "TimeOfDay": "TIME-OF-DAY", "DateTime":
 CODINGS = ROOT / "crates/exchanges/proofs/Laws/Checked.antt"
 VALUE = re.compile(r'^ +value "([^"]*)" "([^"]*)" (\d) "([^"]*)" (\d+) "([^"]*)" ∷', re.M)
 CODED = re.compile(r'^ +coded "([^"]*)" "([^"]*)" "([^"]*)" (\d+) ∷', re.M)
-LIMITED = re.compile(r'^ +limited (\w+) "([^"]*)" "([^"]*)" (\d) "([^"]*)" (\d+) ∷', re.M)
+CODED_UNDER = re.compile(r'^ +limited (\w+) "([^"]*)" "([^"]*)" (\d) "([^"]*)" (\d+) ∷', re.M)
 TAGGED = re.compile(r'^ +element "([^"]*)" "([^"]*)" (\d) "([^"]*)" "([^"]*)" ∷', re.M)
 CAUSE = re.compile(r'^ +(per|der)Cause "([^"]*)" (\w+) "([^"]*)" (\d+) (\d) ∷', re.M)
 CODING_LIMITS = {
@@ -128,25 +142,82 @@ def check_calendar():
         expect(CALENDAR, f"{form} ({year}){fields}", said, truth(there))
 
 
+def shown_date(row):
+    """The date that a row has, with its settings; or nothing."""
+    found = DATE_VALUE.search(row)
+    if not found:
+        return None, ""
+    form, year, fields = found.groups()
+    return texts.Date(form, integer(year), tuple(map(int, fields.split()))), f" Date={form} Year=Basic"
+
+
+def shown_time(row):
+    """The time that a row has, with its settings; or nothing."""
+    found = TIME_VALUE.search(row)
+    if not found:
+        return None, ""
+    clock, fields, digits, number, zone, behind, hours, minutes = found.groups()
+    fraction = texts.Fraction(int(number), int(digits)) if digits != "0" else None
+    difference = None if zone else texts.Difference(b"-" if behind == "true" else b"+", int(hours), int(minutes))
+    time = texts.Time(tuple(map(int, fields.split())), fraction, zone or "LD", difference)
+    return time, f" Time={clock}{'F' + digits if fraction else ''} Local-or-UTC={zone or 'LD'}"
+
+
+def check_shown():
+    """A value's canonical text, other spellings of it, and texts that are not of a form."""
+    shown, spelled, none = rows(SHOWN_TEXTS, SHOWN, SPELLED, NOT_OF_FORM)
+    for row, text, *spelling in [(*each, "false", "false") for each in shown] + spelled:
+        (date, dated), (time, timed) = shown_date(row), shown_time(row)
+        basic = "-".join(name for name, part in (("Date", date), ("Time", time)) if part)
+        t = settings.read_type(f"Basic={basic}{dated}{timed}".encode())
+        value, expected = texts.Value(date, time), texts.Spelling(*(each == "true" for each in spelling))
+        expect(SHOWN_TEXTS, text, (value, expected), texts.read_text(t, text.encode()))
+        if not any(expected):
+            expect(SHOWN_TEXTS, text, text.encode(), texts.canonical_text(value))
+    for form, text in none:
+        t = settings.read_type(f"Basic=Date Date={form} Year=Basic".encode())
+        expect(SHOWN_TEXTS, text, None, texts.read_text(t, text.encode()))
+
+
+def setting_number(name, setting):
+    """The place of a setting in "Base settings", to which Fn adds n times 10; 0 where the list lacks it."""
+    if setting is None:
+        return 0
+    plain, digits = settings.split_time(setting)
+    whole = plain.removesuffix(b"F")
+    return digits * 10 + settings.SETTINGS[name].index(whole) + 1
+
+
+def check_lists():
+    """The number of each setting of a list; a list that is refused has none."""
+    (found,) = rows(LISTS, LIST)
+    for text, *said in found:
+        read = settings.read_list(text.encode()) or {}
+        numbers = [setting_number(name, read.get(name)) for name in settings.SETTINGS]
+        expect(LISTS, text, list(map(int, said)), numbers)
+
+
 def check_types():
     """The number of each type's text, which types select the same rows, and their fraction digits."""
-    types, pairs, counts = rows(TYPES, TYPE, PAIR, COUNT)
+    types, pairs, limited, counts = rows(TYPES, TYPE, PAIR, LIMITED, COUNT)
     for text, limits, said in types:
         read = settings.read_type(text.encode(), LIMITS[limits])
         expect(TYPES, text, int(said), read if settings.is_refused(read) else 0)
-    for first, second, said in pairs:
-        alike = settings.same_rows(settings.read_type(first.encode()), settings.read_type(second.encode()))
-        expect(TYPES, f"{first} and {second}", said, truth(alike))
+    pairs = [(first, "noLimits", second, "noLimits", said) for first, second, said in pairs]
+    for first, upon, second, other, said in pairs + limited:
+        read = settings.read_type(first.encode(), LIMITS[upon]), settings.read_type(second.encode(), LIMITS[other])
+        expect(TYPES, f"{first} {upon} and {second} {other}", said, truth(settings.same_rows(*read)))
     for text, said in counts:
         expect(TYPES, text, int(said), settings.fraction_digits(settings.read_type(text.encode())))
 
 
 def check_texts():
     """The number of each text under its type, and after 0 its canonical text."""
-    (found,) = rows(TEXTS, TEXT)
-    for type_text, text, number, canonical in found:
-        judged = texts.judge(type_text.encode(), settings.NO_LIMITS, text.encode())
-        expect(TEXTS, f"{type_text} {text}", (int(number), canonical.encode()), (judged[0], judged[1] or b""))
+    found, limited = rows(TEXTS, TEXT, UNDER)
+    found = [(type_text, "noLimits", *rest) for type_text, *rest in found]
+    for type_text, limits, text, number, canonical in found + limited:
+        judged = texts.judge(type_text.encode(), LIMITS[limits], text.encode())
+        expect(TEXTS, f"{type_text} {limits} {text}", (int(number), canonical.encode()), (judged[0], judged[1] or b""))
 
 
 def time_exists(fields, digits, fraction, zone, difference=None):
@@ -285,7 +356,7 @@ def check_both_ways(coding, type_text, text, number, octets, bits, canonical, li
 
 def check_codings():
     """Values in PER and in DER, and back; a value of each row, and some under limits; elements of each tag; and the number of each cause."""
-    values, coded, limited, tagged, causes = rows(CODINGS, VALUE, CODED, LIMITED, TAGGED, CAUSE)
+    values, coded, limited, tagged, causes = rows(CODINGS, VALUE, CODED, CODED_UNDER, TAGGED, CAUSE)
     for type_text, text, number, octets, bits, element in values:
         check_both_ways(per, type_text, text, number, octets, bits, text)
         check_both_ways(der, type_text, text, number, element, "0", text)
@@ -309,6 +380,8 @@ def check_lines():
 
 if __name__ == "__main__":
     check_calendar()
+    check_shown()
+    check_lists()
     check_types()
     check_texts()
     check_times()

@@ -15,10 +15,8 @@ PART = re.compile(r"^# (\w+): refused at ", re.M)
 BELIEVED = re.compile(r"^\| `(\w+)` \| ((?:\w+, )*\w+) \| (\d+) \|", re.M)
 SUM = re.compile(r"(\d+) lines of definitions and (\d+) lines of statements")
 
-# where the statements end in the demands' file
-DEMANDS = ROOT / "crates/codec/proofs/Demands.antt"
-PROOFS = "-- ---- answers, as the demands tell them"
-THEOREMS = "-- ---- the demands\n"
+# the file of the claims, which has nothing else
+CLAIMS = ROOT / "crates/exchanges/specs/Demands.antt"
 
 
 def wrong_programs():
@@ -32,21 +30,6 @@ def lines(text):
     return sum(1 for line in text.split("\n") if line.strip() and not re.match(r"\s*(--|use )", line))
 
 
-def statements():
-    """The lines of the demands' file that a reader reads: what is said, and the signatures of the theorems."""
-    said, rest = DEMANDS.read_text("utf-8").split(PROOFS)
-    theorems = rest.split(THEOREMS)[1]
-    signatures, inside = [], False
-    for line in theorems.split("\n"):
-        if re.match(r"\s*pub demand|module _", line):
-            inside = True
-        elif re.match(r"\s*(unfolding |demand\S+ .*=|demand\S+ =)", line):
-            inside = False
-        if inside:
-            signatures.append(line)
-    return lines(said) + lines("\n".join(signatures))
-
-
 def differences():
     """What the document says otherwise."""
     named = set(re.findall(r"`(\w+)`", PROMISES))
@@ -57,8 +40,9 @@ def differences():
         total += found
         if found != int(said):
             yield f"{crate}: {files}: {found} lines, and not {said}"
-    if SUM.findall(PROMISES) != [(str(total), str(statements()))]:
-        yield f"{total} lines of definitions and {statements()} lines of statements"
+    claims = lines(CLAIMS.read_text("utf-8"))
+    if SUM.findall(PROMISES) != [(str(total), str(claims))]:
+        yield f"{total} lines of definitions and {claims} lines of statements"
 
 
 if __name__ == "__main__":

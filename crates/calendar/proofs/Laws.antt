@@ -8,3 +8,4 @@ pub mod Months
 pub mod Dates
 pub mod Numbers
 pub mod Checked
+pub mod Existing

@@ -4,3 +4,5 @@ pub mod Words
 pub mod Pieces
 pub mod Lists
 pub mod Order
+pub mod Spelled
+pub mod Checked

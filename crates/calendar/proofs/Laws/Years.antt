@@ -4,12 +4,13 @@ use mathlib.Core.Bool.{Bool, true, false}
 use Prim.Native.Nat.{ℕ, suc, _+_, _-_, _≤_, _<_}
 use native.Mathlib.Omega.{arith}
 use lib.Dec.{leb}
-use lib.IntN.{ℤ, pos, negsuc, _+ℤ_, subℕ}
+use lib.IntN.{ℤ, pos, negsuc, negℤ, _+ℤ_, subℕ}
 use lib.Signed.{leZ, mag}
 use borrow.Author.Tests.{le-leb, lt-leb, leb-true, leb-false}
 use Rattle.calendar.specs.declared.years.Year.{Year}
 use Rattle.calendar.specs.declared.years.Astronomical.{Astronomical}
-use Rattle.calendar.specs.Years.{astronomicalOf, yearAt, in32}
+use Rattle.calendar.specs.declared.years.Distance.{Distance}
+use Rattle.calendar.specs.Years.{astronomicalOf, yearAt, distanceOf, in32}
 use Rattle.calendar.proofs.Laws.Integers as Z
 
 -- The number of the year 0000.
@@ -65,6 +66,15 @@ year-is year y e = sym (year-back year) ∙ ap yearAt e
 -- Two years of one astronomical year are one year.
 pub one-year : (a b : Year) → astronomicalOf a ≡ astronomicalOf b → a ≡ b
 one-year a b e = year-is a (astronomicalOf b) e ∙ year-back b
+
+-- The year at a distance, so that a distance is that of one year.
+abbrev pub atDistance : Distance → ℤ
+atDistance (Distance.Since years) = pos years
+atDistance (Distance.Before years) = negℤ (pos years)
+
+pub distance-back : (y : ℤ) → atDistance (distanceOf y) ≡ y
+distance-back (pos k) = refl
+distance-back (negsuc k) = refl
 
 -- 32 bits hold the years whose magnitude, `mag`, is below 2147483648 (of -(k + 1) it is k), ..
 pub in32-within : (y : ℤ) → mag y < 2147483648 → in32 y ≡ Astronomical.Within y

@@ -19,17 +19,17 @@ use Rattle.types.specs.declared.types.Window.{Window}
 use Rattle.types.specs.declared.types.Limits.{Limits}
 use Rattle.types.specs.declared.types.TypeRead.{TypeRead}
 
-from2000 : Limits
+abbrev pub from2000 : Limits
 from2000 = record { window = Window.Within (yearAt (pos 2000)) (yearAt (pos 2099)); hour24 = true }
 
 -- a lowest year above the highest
-noYears : Limits
+abbrev pub noYears : Limits
 noYears = record { window = Window.Within (yearAt (pos 2001)) (yearAt (pos 2000)); hour24 = true }
 
-noHour24 : Limits
+abbrev pub noHour24 : Limits
 noHour24 = record { window = Window.Every; hour24 = false }
 
-bothLimits : Limits
+abbrev pub bothLimits : Limits
 bothLimits = record { window = Window.Within (yearAt (pos 2000)) (yearAt (pos 2099)); hour24 = false }
 
 -- a type's text, its limits, and the number that they give
@@ -133,12 +133,13 @@ textsRight [] = true
 textsRight (text s limits number ∷ l) = eqb (typeNumber (typeOf limits (bytes s))) number && textsRight l
 
 texts-checked : textsRight texts ≡ true
-unfolding texts textsRight from2000 noYears noHour24 bothLimits typeOf joined listType timeAt yearsOf member usable distinct allOf equalLists oneRow yearFamily sameButYear listsOf listOf completed complete timedList datedList addPairs addPair splitOn pairOf fractionNumber placeFrom limitedTo placed zoneAt clockAt dateAt eqList
+unfolding texts textsRight typeOf joined listType timeAt yearsOf member usable distinct allOf equalLists oneRow yearFamily sameButYear listsOf listOf completed complete timedList datedList addPairs addPair splitOn pairOf fractionNumber placeFrom limitedTo placed zoneAt clockAt dateAt eqList
 texts-checked = refl
 
--- two types, and whether they select the same rows
+-- two types, with limits or without, and whether they select the same rows
 data PairRow : Type 0 where
   pair : String → String → Bool → PairRow
+  limited : String → Limits → String → Limits → Bool → PairRow
 
 pairs : List PairRow
 pairs =
@@ -163,6 +164,16 @@ pairs =
     pair "Basic=Date-Time Date=YW Year=L5 Time=HMF2 Local-or-UTC=LD" "Basic=Date-Time Date=YW Year=L5 Time=HMF9 Local-or-UTC=LD" true ∷
     pair "Basic=Date-Time Date=YW Year=L5 Time=HMF2 Local-or-UTC=LD" "Basic=Date-Time Date=YWD Year=L5 Time=HMF2 Local-or-UTC=LD" false ∷
     pair "Basic=Date-Time Date=YW Year=L5 Time=HMF2 Local-or-UTC=LD" "Basic=Date-Time Date=YW Year=L5 Time=HMF2 Local-or-UTC=Z" false ∷
+    -- "restrictions don't count"
+    limited "DATE" from2000 "Basic=Date Date=YMD Year=Basic" noLimits true ∷
+    limited "DATE" noLimits "DATE" noYears true ∷
+    limited "Basic=Date Date=Y Year=Negative" noYears "Basic=Date Date=Y Year=L5" from2000 true ∷
+    limited "TIME-OF-DAY" noHour24 "TIME-OF-DAY" noLimits true ∷
+    limited "Basic=Time Time=HF1 Local-or-UTC=Z" noLimits "Basic=Time Time=HF2 Local-or-UTC=Z" noHour24 true ∷
+    limited "DATE-TIME" bothLimits "DATE-TIME" noHour24 true ∷
+    limited "DATE" from2000 "Basic=Date Date=YMD Year=L5" from2000 false ∷
+    limited "TIME-OF-DAY" noHour24 "Basic=Time Time=HM Local-or-UTC=L" noHour24 false ∷
+    limited "DATE" from2000 "DATE-TIME" from2000 false ∷
     []
 
 alike : TypeRead → TypeRead → Bool → Bool
@@ -175,6 +186,7 @@ alike TypeRead.NoRow r expected = false
 pairsRight : List PairRow → Bool
 pairsRight [] = true
 pairsRight (pair s t expected ∷ l) = alike (typeOf noLimits (bytes s)) (typeOf noLimits (bytes t)) expected && pairsRight l
+pairsRight (limited s m t n expected ∷ l) = alike (typeOf m (bytes s)) (typeOf n (bytes t)) expected && pairsRight l
 
 pairs-checked : pairsRight pairs ≡ true
 unfolding pairs pairsRight alike timeNumber sameRow sameRows typeOf joined listType timeAt yearsOf member usable distinct allOf equalLists oneRow yearFamily sameButYear listsOf listOf completed complete timedList datedList addPairs addPair splitOn pairOf fractionNumber placeFrom limitedTo placed zoneAt clockAt dateAt eqList

@@ -16,8 +16,9 @@ use Rattle.lists.proofs.Laws.Octets.{equal}
 use Rattle.texts.specs.declared.forms.DateForm.{DateForm}
 use Rattle.texts.specs.declared.forms.TimeForm.{TimeForm}
 use Rattle.types.specs.Numbers.{dateNumber, dateAt, zoneNumber}
+use Rattle.types.proofs.Laws.Limits.{limits-carried}
 use Rattle.types.proofs.Laws.Numbers.{date-back}
-use Rattle.types.specs.Types.{listed, unlimitedDate, unlimitedTime, DATE, TIME-OF-DAY, DATE-TIME, hasDate, hasTime, placed, restricted, limitedTo, someYear, wellParts}
+use Rattle.types.specs.Types.{listed, unlimitedDate, unlimitedTime, DATE, TIME-OF-DAY, DATE-TIME, limitedTo, limitsOf, someYear, wellParts}
 use Rattle.types.specs.declared.types.Limits.{Limits}
 use Rattle.types.specs.declared.types.Parts.{Parts}
 use Rattle.types.specs.declared.types.TypeRead.{TypeRead}
@@ -32,42 +33,20 @@ use Rattle.settings.proofs.Laws.ListOrder.{either-order}
 use Rattle.settings.proofs.Laws.Words.{join-split, kept, type-text}
 use Rattle.settings.proofs.Laws.Written.{dateList, dateTimeList, time-back, timeCode, timeList, yearNumber}
 
--- A text of a type's settings: its lists, the pairs of each in some order; of two lists, either may be the first.
-pub data Reads (t : «Type») (l : List ℕ) : Type 0 where
-  in-order : (wss : List (List (List ℕ))) → Arranged wss (listsFor (t .parts)) → l ≡ typeText wss → Reads t l
-  swapped : (a b : List (List ℕ)) → Arranged (a ∷ b ∷ []) (listsFor (t .parts)) → l ≡ typeText (b ∷ a ∷ []) → Reads t l
-
--- ---- the lists of a type under limits
-
-abbrev partsRead : Parts → TypeRead → Parts
-partsRead p (TypeRead.«Type» t) = t .parts
-partsRead p TypeRead.Unreadable = p
-partsRead p TypeRead.NoRow = p
-
-same-lists : (limits : Limits) (p : Parts) → listsFor (restricted limits p) ≡ listsFor p
-same-lists limits (Parts.Date d) = refl
-same-lists limits (Parts.Time t) = refl
-same-lists limits (Parts.DateTime d t) = refl
-
-limited-lists : (limits : Limits) (p : Parts) (t : «Type») → limitedTo limits (listed p) ≡ TypeRead.«Type» t → listsFor (t .parts) ≡ listsFor p
-unfolding limitedTo
-limited-lists limits p t = go (placed limits (hasDate p) (hasTime p))
-  where
-    go : (b : Bool) → cond b (TypeRead.«Type» (listed (restricted limits p))) TypeRead.Unreadable ≡ TypeRead.«Type» t → listsFor (t .parts) ≡ listsFor p
-    go true e = ap listsFor (sym (ap (partsRead p) e)) ∙ same-lists limits p
-    go false e = absurd (let z : _≡_ {A = ℕ} 0 1 = cc in omega arith)
+-- A text of settings, and the type under limits that they give: their lists, the pairs of each in some order; of two lists, either may be the first.
+pub data Reads (limits : Limits) (t : «Type») (l : List ℕ) : Type 0 where
+  in-order : (p : Parts) → limitedTo limits (listed p) ≡ TypeRead.«Type» t → (wss : List (List (List ℕ))) → Arranged wss (listsFor p) → l ≡ typeText wss
+      → Reads limits t l
+  swapped : (p : Parts) → limitedTo limits (listed p) ≡ TypeRead.«Type» t → (a b : List (List ℕ)) → Arranged (a ∷ b ∷ []) (listsFor p) → l ≡ typeText (b ∷ a ∷ [])
+      → Reads limits t l
 
 module _ (limits : Limits) (l : List ℕ) (t : «Type») (h : typeOf limits l ≡ TypeRead.«Type» t) (p : Parts) (w : wellParts p ≡ true) where
-  reads-as : (wss : List (List (List ℕ))) → Arranged wss (listsFor p) → l ≡ typeText wss → Reads t l
-  reads-as wss a e =
-      let q : limitedTo limits (listed p) ≡ TypeRead.«Type» t = sym (settings-read limits p w a) ∙ ap (typeOf limits) (sym e) ∙ h in
-      in-order wss (subst (Arranged wss) (sym (limited-lists limits p t q)) a) e
+  reads-as : (wss : List (List (List ℕ))) → Arranged wss (listsFor p) → l ≡ typeText wss → Reads limits t l
+  reads-as wss a e = in-order p (sym (settings-read limits p w a) ∙ ap (typeOf limits) (sym e) ∙ h) wss a e
 
   reads-swapped : (a b : List (List ℕ)) → Arranged (a ∷ b ∷ []) (listsFor p) → l ≡ typeText (b ∷ a ∷ [])
-      → typeOf limits (typeText (a ∷ b ∷ [])) ≡ typeOf limits (typeText (b ∷ a ∷ [])) → Reads t l
-  reads-swapped a b r e o =
-      let q : limitedTo limits (listed p) ≡ TypeRead.«Type» t = sym (settings-read limits p w r) ∙ o ∙ ap (typeOf limits) (sym e) ∙ h in
-      swapped a b (subst (Arranged (a ∷ b ∷ [])) (sym (limited-lists limits p t q)) r) e
+      → typeOf limits (typeText (a ∷ b ∷ [])) ≡ typeOf limits (typeText (b ∷ a ∷ [])) → Reads limits t l
+  reads-swapped a b r e o = swapped p (sym (settings-read limits p w r) ∙ o ∙ ap (typeOf limits) (sym e) ∙ h) a b r e
 
 -- ---- one list
 
@@ -85,7 +64,7 @@ one-year negative = (refl, refl)
 one-year five = (refl, refl)
 
 module _ (limits : Limits) (l : List ℕ) (t : «Type») (h : typeOf limits l ≡ TypeRead.«Type» t) where
-  one-list : (ws : List (List ℕ)) (s : Settings) → ListOf ws s → l ≡ typeText (ws ∷ []) → Reads t l
+  one-list : (ws : List (List ℕ)) (s : Settings) → ListOf ws s → l ≡ typeText (ws ∷ []) → Reads limits t l
   one-list ws s (a-date f y p e) x =
       reads-as limits l t h (Parts.Date (unlimitedDate f (oneYear y))) (one-year y .0) (ws ∷ []) (rw (one-year y .1) (more p end)) x
   one-list ws s (a-time u k p e) x = reads-as limits l t h (Parts.Time (unlimitedTime u)) (le-leb (u .digits) 9 k) (ws ∷ []) (more p end) x
@@ -136,28 +115,28 @@ record Alike (s u : Settings) : Type 0 where
 
 module _ (limits : Limits) (l : List ℕ) (t : «Type») (h : typeOf limits l ≡ TypeRead.«Type» t) (a b : List (List ℕ)) (x : l ≡ typeText (a ∷ b ∷ []))
     (o : typeOf limits (typeText (b ∷ a ∷ [])) ≡ typeOf limits (typeText (a ∷ b ∷ []))) where
-  two-ways : (p : Parts) → wellParts p ≡ true → (Arranged (a ∷ b ∷ []) (listsFor p)) ⊎ (Arranged (b ∷ a ∷ []) (listsFor p)) → Reads t l
+  two-ways : (p : Parts) → wellParts p ≡ true → (Arranged (a ∷ b ∷ []) (listsFor p)) ⊎ (Arranged (b ∷ a ∷ []) (listsFor p)) → Reads limits t l
   two-ways p w (inl r) = reads-as limits l t h p w (a ∷ b ∷ []) r x
   two-ways p w (inr r) = reads-swapped limits l t h p w b a r x o
 
-  dates : (f : DateForm) (y z : YearSetting) → Two y z → List·Permᴰ a (dateWords f y) → List·Permᴰ b (dateWords f z) → Reads t l
+  dates : (f : DateForm) (y z : YearSetting) → Two y z → List·Permᴰ a (dateWords f y) → List·Permᴰ b (dateWords f z) → Reads limits t l
   dates f y z w p q = go (w .named)
     where
-      go : (namedYears (w .years) ≡ y ∷ z ∷ []) ⊎ (namedYears (w .years) ≡ z ∷ y ∷ []) → Reads t l
+      go : (namedYears (w .years) ≡ y ∷ z ∷ []) ⊎ (namedYears (w .years) ≡ z ∷ y ∷ []) → Reads limits t l
       go (inl n) = two-ways (Parts.Date (unlimitedDate f (w .years))) (w .some) (inl (rw n (more p (more q end))))
       go (inr n) = two-ways (Parts.Date (unlimitedDate f (w .years))) (w .some) (inr (rw n (more q (more p end))))
 
-  date-times : (f : DateForm) (u : TimeForm) (y z : YearSetting) → u .digits ≤ 9 → Two y z → List·Permᴰ a (dateTimeWords f u y) → List·Permᴰ b (dateTimeWords f u z) → Reads t l
+  date-times : (f : DateForm) (u : TimeForm) (y z : YearSetting) → u .digits ≤ 9 → Two y z → List·Permᴰ a (dateTimeWords f u y) → List·Permᴰ b (dateTimeWords f u z) → Reads limits t l
   date-times f u y z k w p q = go (w .named)
     where
       well : wellParts (Parts.DateTime (unlimitedDate f (w .years)) (unlimitedTime u)) ≡ true
       well = rw (w .some) (le-leb (u .digits) 9 k)
 
-      go : (namedYears (w .years) ≡ y ∷ z ∷ []) ⊎ (namedYears (w .years) ≡ z ∷ y ∷ []) → Reads t l
+      go : (namedYears (w .years) ≡ y ∷ z ∷ []) ⊎ (namedYears (w .years) ≡ z ∷ y ∷ []) → Reads limits t l
       go (inl n) = two-ways (Parts.DateTime (unlimitedDate f (w .years)) (unlimitedTime u)) well (inl (rw n (more p (more q end))))
       go (inr n) = two-ways (Parts.DateTime (unlimitedDate f (w .years)) (unlimitedTime u)) well (inr (rw n (more q (more p end))))
 
-  two-lists : (s u : Settings) → ListOf a s → ListOf b u → Alike s u → Reads t l
+  two-lists : (s u : Settings) → ListOf a s → ListOf b u → Alike s u → Reads limits t l
   two-lists s u (a-date f y p e) (a-date g z q i) k =
       let m : Alike (dateList f y) (dateList g z) = rw (e, i) at k in
       let n : f ≡ g = by-number dateNumber dateAt date-back f g (m .date-is) in
@@ -231,11 +210,11 @@ module _ (limits : Limits) (l : List ℕ) (t : «Type») (h : typeOf limits l �
   unfolding typeText joinWith
   either-way p q i j = rw (join-split 32 p, join-split 32 q) (either-order limits q p j i)
 
-  lists-read : joined limits (listsOf l) ≡ TypeRead.«Type» t → Reads t l
+  lists-read : joined limits (listsOf l) ≡ TypeRead.«Type» t → Reads limits t l
   unfolding listsOf joined allOf distinct
   lists-read = go (splitOn 124 l) refl (split-lacks 124 l)
     where
-      go : (ps : List (List ℕ)) → splitOn 124 l ≡ ps → allOf (lacks 124) ps ≡ true → joined limits (map listOf ps) ≡ TypeRead.«Type» t → Reads t l
+      go : (ps : List (List ℕ)) → splitOn 124 l ≡ ps → allOf (lacks 124) ps ≡ true → joined limits (map listOf ps) ≡ TypeRead.«Type» t → Reads limits t l
       go [] e k j = absurd (let z : _≡_ {A = ℕ} 0 1 = cc in omega arith)
       go (p ∷ []) e k j =
           let c = kept (true && (usable limits (listOf p) && true) && true) _ t j in
@@ -261,31 +240,42 @@ module _ (limits : Limits) (l : List ℕ) (t : «Type») (h : typeOf limits l �
 -- ---- the law
 
 -- How a text that is read as a type stands for it.
-pub data Stands (t : «Type») (l : List ℕ) : Type 0 where
-  DATE-is : l ≡ bytes "DATE" → Stands t l
-  TIME-OF-DAY-is : l ≡ bytes "TIME-OF-DAY" → Stands t l
-  DATE-TIME-is : l ≡ bytes "DATE-TIME" → Stands t l
-  settings-are : Reads t l → Stands t l
+pub data Stands (limits : Limits) (t : «Type») (l : List ℕ) : Type 0 where
+  DATE-is : l ≡ bytes "DATE" → limitedTo limits DATE ≡ TypeRead.«Type» t → Stands limits t l
+  TIME-OF-DAY-is : l ≡ bytes "TIME-OF-DAY" → limitedTo limits TIME-OF-DAY ≡ TypeRead.«Type» t → Stands limits t l
+  DATE-TIME-is : l ≡ bytes "DATE-TIME" → limitedTo limits DATE-TIME ≡ TypeRead.«Type» t → Stands limits t l
+  settings-are : Reads limits t l → Stands limits t l
 
--- What is read as a type is a name, or the type's own settings, in some order.
-pub read-stands : (limits : Limits) (l : List ℕ) (t : «Type») → typeOf limits l ≡ TypeRead.«Type» t → Stands t l
+-- What is read as a type is a name, and the type is what the name stands for, or it is the type's own settings, in some order; under these limits.
+pub read-stands : (limits : Limits) (l : List ℕ) (t : «Type») → typeOf limits l ≡ TypeRead.«Type» t → Stands limits t l
 unfolding typeOf
 read-stands limits l t h = date-name (eqList l (bytes "DATE")) refl h
   where
-    both-name : (b : Bool) → eqList l (bytes "DATE-TIME") ≡ b → cond b (limitedTo limits DATE-TIME) (joined limits (listsOf l)) ≡ TypeRead.«Type» t → Stands t l
-    both-name true e j = DATE-TIME-is (equal l _ e)
+    both-name : (b : Bool) → eqList l (bytes "DATE-TIME") ≡ b → cond b (limitedTo limits DATE-TIME) (joined limits (listsOf l)) ≡ TypeRead.«Type» t → Stands limits t l
+    both-name true e j = DATE-TIME-is (equal l _ e) j
     both-name false e j = settings-are (lists-read limits l t h j)
 
     time-name : (b : Bool) → eqList l (bytes "TIME-OF-DAY") ≡ b
         → cond b (limitedTo limits TIME-OF-DAY) (cond (eqList l (bytes "DATE-TIME")) (limitedTo limits DATE-TIME) (joined limits (listsOf l))) ≡ TypeRead.«Type» t
-        → Stands t l
-    time-name true e j = TIME-OF-DAY-is (equal l _ e)
+        → Stands limits t l
+    time-name true e j = TIME-OF-DAY-is (equal l _ e) j
     time-name false e j = both-name (eqList l (bytes "DATE-TIME")) refl j
 
     date-name : (b : Bool) → eqList l (bytes "DATE") ≡ b
         → cond b (limitedTo limits DATE)
         (cond (eqList l (bytes "TIME-OF-DAY")) (limitedTo limits TIME-OF-DAY) (cond (eqList l (bytes "DATE-TIME")) (limitedTo limits DATE-TIME) (joined limits (listsOf l))))
         ≡ TypeRead.«Type» t
-        → Stands t l
-    date-name true e j = DATE-is (equal l _ e)
+        → Stands limits t l
+    date-name true e j = DATE-is (equal l _ e) j
     date-name false e j = time-name (eqList l (bytes "TIME-OF-DAY")) refl j
+
+-- The type that is read carries the limits given beside its text, and no other restriction.
+pub read-limits : (limits : Limits) (l : List ℕ) (t : «Type») → typeOf limits l ≡ TypeRead.«Type» t → limitsOf (t .parts) ≡ limits
+read-limits limits l t h = go (read-stands limits l t h)
+  where
+    go : Stands limits t l → limitsOf (t .parts) ≡ limits
+    go (DATE-is e k) = limits-carried limits DATE t k
+    go (TIME-OF-DAY-is e k) = limits-carried limits TIME-OF-DAY t k
+    go (DATE-TIME-is e k) = limits-carried limits DATE-TIME t k
+    go (settings-are (in-order p k wss a e)) = limits-carried limits (listed p) t k
+    go (settings-are (swapped p k a b r e)) = limits-carried limits (listed p) t k

@@ -6,7 +6,7 @@ use Prim.Native.Nat.{ℕ, _+_, _-_, _*_, _/_, _%_, _<_, _≤_}
 use native.Mathlib.Omega.{arith}
 use lib.Dec.{eqb}
 use lib.ListN.{length}
-use borrow.Author.Tests.{lt-ltb, ne-eqb, eq-eqb, eqb-true, eqb-false, le-leb, not-true}
+use borrow.Author.Tests.{lt-ltb, ne-eqb, eq-eqb, eqb-true, eqb-false, not-true}
 use Rattle.lists.specs.Octets.{bytes, eqList}
 use Rattle.types.specs.Numbers.{dateNumber, dateAt, clockNumber, clockAt, zoneNumber, zoneAt}
 use Rattle.types.specs.Types.{unlimitedDate, unlimitedTime, listed, hasDate, hasTime, placed, limitedTo, someYear}
@@ -26,6 +26,7 @@ use Rattle.types.specs.declared.types.Limits.{Limits}
 use Rattle.types.specs.declared.types.TypeRead.{TypeRead}
 use Rattle.lists.specs.declared.lists.Settings.{Settings}
 use Rattle.lists.proofs.Laws.Octets.{equal}
+use Rattle.lists.proofs.Laws.Spelled.{time-HF, time-HMF, time-HMSF, word-read}
 use Rattle.settings.proofs.Laws.Joining.{lacks, split-join, lacks-join, has-join, all-perm, all-weaken, length-perm}
 use Rattle.lists.proofs.Laws.Order.{pairs-perm}
 
@@ -78,15 +79,10 @@ zone-setting ZoneForm.L = record { word = refl; some = omega arith; back = refl 
 zone-setting ZoneForm.Z = record { word = refl; some = omega arith; back = refl }
 zone-setting ZoneForm.LD = record { word = refl; some = omega arith; back = refl }
 
-fraction-pair : (c : ClockForm) (n : ℕ) → 1 ≤ n → n ≤ 9 →
-    pairOf (clockWord c ++ bytes "F" ++ (48 + n) ∷ []) ≡ pair 3 ((48 + n - 48) * 10 + clockNumber c)
-unfolding pairOf placeFrom eqList fractionNumber
-fraction-pair ClockForm.H n h k =
-    rw (le-leb 49 (48 + n) (omega arith), le-leb (48 + n) 57 (omega arith), ne-eqb ((48 + n - 48) * 10 + 1) 0 (λ z. omega arith))
-fraction-pair ClockForm.HM n h k =
-    rw (le-leb 49 (48 + n) (omega arith), le-leb (48 + n) 57 (omega arith), ne-eqb ((48 + n - 48) * 10 + 2) 0 (λ z. omega arith))
-fraction-pair ClockForm.HMS n h k =
-    rw (le-leb 49 (48 + n) (omega arith), le-leb (48 + n) 57 (omega arith), ne-eqb ((48 + n - 48) * 10 + 3) 0 (λ z. omega arith))
+fraction-pair : (c : ClockForm) (n : ℕ) → 1 ≤ n → n ≤ 9 → pairOf (clockWord c ++ bytes "F" ++ (48 + n) ∷ []) ≡ pair 3 (n * 10 + clockNumber c)
+fraction-pair ClockForm.H n h k = word-read _ _ (time-HF n h k)
+fraction-pair ClockForm.HM n h k = word-read _ _ (time-HMF n h k)
+fraction-pair ClockForm.HMS n h k = word-read _ _ (time-HMSF n h k)
 
 record ClockSetting (c : ClockForm) : Type 0 where
   word : pairOf (clockWord c) ≡ pair 3 (clockNumber c)
@@ -114,8 +110,7 @@ time-word c n k = go (eqb n 0) refl where
       clock-setting c .word ∙ ap (pair 3) z
   go false e =
       let h : n ≡ 0 → ⊥ = eqb-false n 0 e in
-      let z : (48 + n - 48) * 10 + clockNumber c ≡ timeCode c n = omega arith in
-      fraction-pair c n (omega arith) k ∙ ap (pair 3) z
+      fraction-pair c n (omega arith) k
 
 pub time-back : (t : TimeForm) → timeAt (timeCode (t .clock) (t .digits)) (zoneNumber (t .zone)) ≡ t
 unfolding timeAt

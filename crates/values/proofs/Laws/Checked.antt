@@ -1,10 +1,12 @@
--- Texts under types as checked values: a type's text, a text, the number that it gives, and after 0 the canonical text.
+-- Texts under types as checked values: a type's text, without limits or with them, a text, the number that it gives, and after 0 the canonical
+-- text.
 use mathlib.Core.Path.{_≡_, refl}
 use mathlib.Core.Bool.{_&&_, Bool, true}
 use mathlib.Core.List.{_∷_, List, []}
 use Prim.Native.Nat.{ℕ}
 use Prim.Native.String.{String}
 use lib.Dec.{eqb}
+use lib.IntN.{negsuc, pos}
 use Rattle.calendar.specs.Dates.{upTo}
 use Rattle.calendar.specs.Integers.{divisible, quotient, remainder}
 use Rattle.calendar.specs.Months.{monthLengthOf}
@@ -14,9 +16,12 @@ use Rattle.lists.specs.Lists.{addPair, addPairs, complete, completed, datedList
 use Rattle.lists.specs.Octets.{bytes, eqList}
 use Rattle.lists.specs.Words.{fractionNumber, pairOf, placeFrom}
 use Rattle.types.specs.Numbers.{clockAt, dateAt, zoneAt}
+use Rattle.settings.proofs.Laws.CheckedTypes.{bothLimits, from2000, noHour24, noYears}
 use Rattle.settings.specs.TypeTexts.{allOf, distinct, equalLists, joined, listType, listsOf, member, oneRow, sameButYear, timeAt, typeOf, usable, yearFamily, yearsOf}
 use Rattle.types.specs.Types.{limitedTo, noLimits, placed, typeNumber, wellFormed}
+use Rattle.types.specs.declared.types.Limits.{Limits}
 use Rattle.types.specs.declared.types.TypeRead.{TypeRead}
+use Rattle.types.specs.declared.types.Window.{Window}
 use Rattle.texts.specs.Dates.{getAfter, getDate, getWeek, putAfter, putDate}
 use Rattle.texts.specs.Digits.{getDigits, getField, leading, putDigits}
 use Rattle.texts.specs.Texts.{getValue, readUpTo, render, textOf}
@@ -30,6 +35,7 @@ use Rattle.values.specs.declared.admission.Admission.{Admission}
 
 data Row : Type 0 where
   row : String → String → ℕ → String → Row
+  under : String → Limits → String → ℕ → String → Row
 
 rows : List Row
 rows =
@@ -110,6 +116,56 @@ rows =
     row "Basic=Date Date=Y Year=Basic|Basic=Date Date=Y Year=L5" "206" 2 "" ∷
     []
 
+-- from -0044 to -0001, and from 1500 to 1600
+early : Limits
+early = record { window = Window.Within (yearAt (negsuc 43)) (yearAt (negsuc 0)); hour24 = true }
+
+from1500 : Limits
+from1500 = record { window = Window.Within (yearAt (pos 1500)) (yearAt (pos 1600)); hour24 = true }
+
+limited : List Row
+limited =
+    -- a lowest and a highest year, both ends
+    under "DATE" from2000 "1999-12-31" 5 "" ∷
+    under "DATE" from2000 "2000-01-01" 0 "2000-01-01" ∷
+    under "DATE" from2000 "2099-12-31" 0 "2099-12-31" ∷
+    under "DATE" from2000 "2100-01-01" 5 "" ∷
+    under "DATE" from2000 "2100-02-29" 4 "" ∷
+    under "DATE" from2000 "2100-1-1" 3 "" ∷
+    under "Basic=Date Date=Y Year=Negative|Basic=Date Date=Y Year=L5" early "-10044" 5 "" ∷
+    under "Basic=Date Date=Y Year=Negative|Basic=Date Date=Y Year=L5" early "-0045" 5 "" ∷
+    under "Basic=Date Date=Y Year=Negative|Basic=Date Date=Y Year=L5" early "-0044" 0 "-0044" ∷
+    under "Basic=Date Date=Y Year=Negative|Basic=Date Date=Y Year=L5" early "-0001" 0 "-0001" ∷
+    under "Basic=Date Date=Y Year=Negative|Basic=Date Date=Y Year=L5" early "+10000" 5 "" ∷
+    under "Basic=Date Date=YM Year=Basic|Basic=Date Date=YM Year=Proleptic" from1500 "1499-12" 5 "" ∷
+    under "Basic=Date Date=YM Year=Basic|Basic=Date Date=YM Year=Proleptic" from1500 "1500-01" 0 "1500-01" ∷
+    under "Basic=Date Date=YM Year=Basic|Basic=Date Date=YM Year=Proleptic" from1500 "1600-12" 0 "1600-12" ∷
+    under "Basic=Date Date=YM Year=Basic|Basic=Date Date=YM Year=Proleptic" from1500 "1601-01" 5 "" ∷
+    -- a window doesn't name a Year
+    under "Basic=Date Date=YM Year=Basic" from1500 "1500-01" 5 "" ∷
+    -- "A lowest year above the highest makes a type with no values."
+    under "DATE" noYears "2000-06-13" 5 "" ∷
+    under "DATE" noYears "2001-06-13" 5 "" ∷
+    -- hour 24, and "no hour 24"
+    under "TIME-OF-DAY" noLimits "24:00:00" 0 "24:00:00" ∷
+    under "TIME-OF-DAY" noHour24 "24:00:00" 5 "" ∷
+    under "TIME-OF-DAY" noHour24 "24:00:01" 4 "" ∷
+    under "TIME-OF-DAY" noHour24 "23:59:60" 0 "23:59:60" ∷
+    under "TIME-OF-DAY" noHour24 "00:00:00" 0 "00:00:00" ∷
+    under "Basic=Time Time=HF1 Local-or-UTC=Z" noHour24 "24,0Z" 5 "" ∷
+    under "Basic=Time Time=HF1 Local-or-UTC=Z" noHour24 "23,9Z" 0 "23.9Z" ∷
+    -- both
+    under "DATE-TIME" from2000 "2099-12-31T24:00:00" 0 "2099-12-31T24:00:00" ∷
+    under "DATE-TIME" noHour24 "1999-12-31T24:00:00" 5 "" ∷
+    under "DATE-TIME" noHour24 "1999-12-31T23:59:59" 0 "1999-12-31T23:59:59" ∷
+    under "DATE-TIME" bothLimits "1999-12-31T23:59:59" 5 "" ∷
+    under "DATE-TIME" bothLimits "2000-01-01T00:00:00" 0 "2000-01-01T00:00:00" ∷
+    under "DATE-TIME" bothLimits "2099-12-31T24:00:00" 5 "" ∷
+    -- "a restriction where it has no place"
+    under "DATE" noHour24 "2006-06-13" 1 "" ∷
+    under "TIME-OF-DAY" from2000 "15:27:46" 1 "" ∷
+    []
+
 numberIn : TypeRead → List ℕ → ℕ
 numberIn (TypeRead.«Type» t) l = admissionNumber (admitted t l)
 numberIn TypeRead.Unreadable l = typeNumber TypeRead.Unreadable
@@ -124,13 +180,18 @@ textIn (TypeRead.«Type» t) l = textAfter (admitted t l)
 textIn TypeRead.Unreadable l = []
 textIn TypeRead.NoRow l = []
 
+isRight : TypeRead → List ℕ → ℕ → String → Bool
+isRight t l number canonical = eqb (numberIn t l) number && eqList (textIn t l) (bytes canonical)
+
 allRight : List Row → Bool
 allRight [] = true
-allRight (row s text number canonical ∷ l) =
-    eqb (numberIn (typeOf noLimits (bytes s)) (bytes text)) number
-    && eqList (textIn (typeOf noLimits (bytes s)) (bytes text)) (bytes canonical)
-    && allRight l
+allRight (row s text number canonical ∷ l) = isRight (typeOf noLimits (bytes s)) (bytes text) number canonical && allRight l
+allRight (under s limits text number canonical ∷ l) = isRight (typeOf limits (bytes s)) (bytes text) number canonical && allRight l
 
 texts-checked : allRight rows ≡ true
-unfolding rows numberIn textAfter textIn allRight upTo quotient remainder divisible monthLengthOf daysOfYears newYear weekOf weekOneOf weeksOf astronomicalOf yearAt leapOf yearLengthOf putAfter putDate getWeek getAfter getDate putDigits getDigits getField leading render getValue readUpTo putClock getAfterHours getClock putFraction getFraction putZone getMinutes getDifference getZone putTime getTime sizeIn yearDigits yearText signedFits getSigned getYear splitOn addPair addPairs datedList timedList complete completed listOf eqList placeFrom fractionNumber pairOf dateAt clockAt zoneAt listsOf sameButYear yearFamily oneRow equalLists allOf distinct usable member yearsOf timeAt listType joined typeOf placed limitedTo wellFormed judged admitted existsClock existsFraction existsDifference existsTime sameDateForm sameTimeForm between admitsDate admitsTime inType holdsOf
+unfolding rows numberIn textAfter textIn isRight allRight upTo quotient remainder divisible monthLengthOf daysOfYears newYear weekOf weekOneOf weeksOf astronomicalOf yearAt leapOf yearLengthOf putAfter putDate getWeek getAfter getDate putDigits getDigits getField leading render getValue readUpTo putClock getAfterHours getClock putFraction getFraction putZone getMinutes getDifference getZone putTime getTime sizeIn yearDigits yearText signedFits getSigned getYear splitOn addPair addPairs datedList timedList complete completed listOf eqList placeFrom fractionNumber pairOf dateAt clockAt zoneAt listsOf sameButYear yearFamily oneRow equalLists allOf distinct usable member yearsOf timeAt listType joined typeOf placed limitedTo wellFormed judged admitted existsClock existsFraction existsDifference existsTime sameDateForm sameTimeForm between admitsDate admitsTime inType holdsOf
 texts-checked = refl
+
+limits-checked : allRight limited ≡ true
+unfolding limited early from1500 numberIn textAfter textIn isRight allRight upTo quotient remainder divisible monthLengthOf daysOfYears newYear weekOf weekOneOf weeksOf astronomicalOf yearAt leapOf yearLengthOf putAfter putDate getWeek getAfter getDate putDigits getDigits getField leading render getValue readUpTo putClock getAfterHours getClock putFraction getFraction putZone getMinutes getDifference getZone putTime getTime sizeIn yearDigits yearText signedFits getSigned getYear splitOn addPair addPairs datedList timedList complete completed listOf eqList placeFrom fractionNumber pairOf dateAt clockAt zoneAt listsOf sameButYear yearFamily oneRow equalLists allOf distinct usable member yearsOf timeAt listType joined typeOf placed limitedTo wellFormed judged admitted existsClock existsFraction existsDifference existsTime sameDateForm sameTimeForm between admitsDate admitsTime inType holdsOf
+limits-checked = refl

@@ -10,6 +10,9 @@ use lib.Dec.{T, eqb}
 use lib.IntN.{ℤ}
 use lib.Signed.{leZ, _≤ℤ_, leZ-yes}
 use borrow.Author.Tests.{ne-eqb}
+use Rattle.answers.specs.Outcomes.{Answer, done, refused}
+use Rattle.answers.specs.Refusals.{numberOf}
+use Rattle.answers.specs.declared.counts.Bits.{Bits}
 use Rattle.answers.specs.declared.refusals.Refusal.{Refusal}
 use Rattle.calendar.proofs.Laws.Bools.{both}
 use Rattle.calendar.specs.Years.{astronomicalOf}
@@ -34,6 +37,7 @@ use Rattle.values.specs.Admission.{admissionNumber, admitted, givenAs, j
 use Rattle.values.specs.Existence.{existsValue, hoursOf}
 use Rattle.values.specs.Forms.{sameForm}
 use Rattle.values.specs.Holding.{admits, admitsDate, admitsTime, between, holdsOf, inType, inWindow}
+use Rattle.values.specs.Written.{written}
 use Rattle.values.specs.declared.admission.Admission.{Admission}
 use Rattle.values.specs.declared.admission.Judgement.{Judgement}
 use Rattle.values.proofs.Laws.Holding.{Setting, date-admitted, form-same, held, holds-both, in-type, inSetting, named-year, names, of-form, same-form, time-admitted, year-named}
@@ -230,3 +234,18 @@ module _ (t : Ty) (l : List ℕ) where
   admission-only n (one w) = simp w
   admission-only n (three w r) = simp (w, r)
   admission-only n (value w v s r m h) = rw (w, r) (given-number v (judged t v) ∙ judgement-only t v m h)
+
+-- ---- a value's text as an answer
+
+-- The canonical text of a value that exists, with the bits given; of no such value 4.
+pub data WhyWritten (bits : Bits) (v : Value) : Answer → Type 0 where
+  text : existsValue v ≡ true → WhyWritten bits v (done (textOf v) bits)
+  four : (why : Refusal) → numberOf why ≡ 4 → existsValue v ≡ false → WhyWritten bits v (refused why)
+
+pub written-why : (bits : Bits) (v : Value) → WhyWritten bits v (written bits v)
+unfolding written
+written-why bits v = go (existsValue v) refl
+  where
+    go : (b : Bool) → existsValue v ≡ b → WhyWritten bits v (cond b (done (textOf v) bits) (refused Refusal.Existence))
+    go true e = text e
+    go false e = four Refusal.Existence refl e

@@ -1,0 +1,68 @@
+-- Settings lists as checked values: a text, and the numbers of its Basic, Date, Year, Time and Local-or-UTC settings by their places in "Base
+-- settings", where Fn adds n times 10 and 0 is "not there". A list that is refused has none.
+use mathlib.Core.Path.{_≡_, refl}
+use mathlib.Core.Bool.{Bool, true, not, Bool·beq, _&&_}
+use mathlib.Core.List.{List, [], _∷_}
+use Prim.Native.Nat.{ℕ}
+use Prim.Native.String.{String}
+use lib.Dec.{eqb}
+use Rattle.lists.specs.Octets.{bytes, eqList}
+use Rattle.lists.specs.Words.{fractionNumber, pairOf, placeFrom}
+use Rattle.lists.specs.Lists.{addPair, addPairs, complete, completed, datedList, listOf, splitOn, timedList}
+
+data Row : Type 0 where
+  list : String → ℕ → ℕ → ℕ → ℕ → ℕ → Row
+
+rows : List Row
+rows =
+    -- "in any order"
+    list "Basic=Date Date=Y Year=Basic" 1 1 1 0 0 ∷
+    list "Year=Proleptic Date=YM Basic=Date" 1 2 2 0 0 ∷
+    list "Date=YMD Basic=Date Year=Negative" 1 3 3 0 0 ∷
+    list "Basic=Date Date=YD Year=L5" 1 4 4 0 0 ∷
+    list "Basic=Time Time=H Local-or-UTC=L" 2 0 0 1 1 ∷
+    list "Local-or-UTC=Z Time=HM Basic=Time" 2 0 0 2 2 ∷
+    list "Time=HMS Local-or-UTC=LD Basic=Time" 2 0 0 3 3 ∷
+    list "Basic=Time Time=HMSF9 Local-or-UTC=LD" 2 0 0 93 3 ∷
+    list "Basic=Date-Time Date=YW Year=Basic Time=HF1 Local-or-UTC=L" 3 5 1 11 1 ∷
+    list "Time=HMF5 Date=YWD Local-or-UTC=Z Year=L5 Basic=Date-Time" 3 6 4 52 2 ∷
+    -- "missing"
+    list "Date=Y Year=Basic" 0 0 0 0 0 ∷
+    list "Basic=Date Year=Basic" 0 0 0 0 0 ∷
+    list "Basic=Date Date=Y" 0 0 0 0 0 ∷
+    list "Basic=Time Local-or-UTC=L" 0 0 0 0 0 ∷
+    list "Basic=Time Time=H" 0 0 0 0 0 ∷
+    list "Basic=Date-Time Date=Y Time=H Local-or-UTC=L" 0 0 0 0 0 ∷
+    list "Basic=Date-Time Date=Y Year=Basic Time=H" 0 0 0 0 0 ∷
+    -- where the value has no date, or no time
+    list "Basic=Date Date=Y Year=Basic Time=H" 0 0 0 0 0 ∷
+    list "Basic=Date Date=Y Year=Basic Local-or-UTC=L" 0 0 0 0 0 ∷
+    list "Basic=Time Time=H Local-or-UTC=L Date=Y" 0 0 0 0 0 ∷
+    list "Basic=Time Time=H Local-or-UTC=L Year=Basic" 0 0 0 0 0 ∷
+    -- "each property at most once"
+    list "Basic=Date Date=Y Year=Basic Date=Y" 0 0 0 0 0 ∷
+    list "Basic=Date Date=Y Year=Basic Year=L5" 0 0 0 0 0 ∷
+    list "Basic=Date Basic=Date-Time Date=Y Year=Basic Time=H Local-or-UTC=L" 0 0 0 0 0 ∷
+    -- "one space between"
+    list "Basic=Date  Date=Y Year=Basic" 0 0 0 0 0 ∷
+    list " Basic=Date Date=Y Year=Basic" 0 0 0 0 0 ∷
+    list "Basic=Date Date=Y Year=Basic " 0 0 0 0 0 ∷
+    list "Basic=Date,Date=Y,Year=Basic" 0 0 0 0 0 ∷
+    list "" 0 0 0 0 0 ∷
+    -- "with n from 1 to 9"
+    list "Basic=Time Time=HF Local-or-UTC=L" 0 0 0 0 0 ∷
+    list "Basic=Time Time=HF0 Local-or-UTC=L" 0 0 0 0 0 ∷
+    list "Basic=Time Time=HF10 Local-or-UTC=L" 0 0 0 0 0 ∷
+    -- "Centuries and intervals are no base types"
+    list "Basic=Date Date=C Year=Basic" 0 0 0 0 0 ∷
+    list "Basic=Interval Interval-type=SE SE-point=Date Date=Y Year=Basic" 0 0 0 0 0 ∷
+    []
+
+allRight : List Row → Bool
+allRight [] = true
+allRight (list s b d y t z ∷ l) =
+    eqList (listOf (bytes s) .numbers) (b ∷ d ∷ y ∷ t ∷ z ∷ []) && Bool·beq (listOf (bytes s) .readable) (not (eqb b 0)) && allRight l
+
+lists-checked : allRight rows ≡ true
+unfolding rows allRight listOf completed complete timedList datedList addPairs addPair splitOn pairOf fractionNumber placeFrom eqList
+lists-checked = refl
