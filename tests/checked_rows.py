@@ -1,6 +1,6 @@
 """Compares each row of the proved tables with the independent reference: the calendar's years and dates, the
-settings lists, the types and their rows, the texts under types, unaligned PER, DER and the lines. Prints the first row that differs and exits
-1, or prints nothing."""
+texts of values, the settings lists, the types and their rows, the texts under types, unaligned PER, DER and the
+lines. Prints the first row that differs and exits 1, or prints nothing."""
 
 import re
 import sys
@@ -24,7 +24,9 @@ SHOWN = re.compile(r'^ +shown (\(.*\)) "([^"]*)" refl refl ∷', re.M)
 SPELLED = re.compile(r'^ +spelled (\(.*\)) "([^"]*)" \(spelling (true|false) (true|false)\) refl ∷', re.M)
 NO_DATE = re.compile(r'^ +none DateForm\.(\w+) "([^"]*)" refl ∷', re.M)
 DATE_VALUE = re.compile(r"Date\.(\w+) \(yearAt \((\w+ \d+)\)\)((?: \d+)*)")
-TIME_VALUE = re.compile(r"time \(Clock\.(\w+)((?: \d+)+)\) (\d+) (\d+) \(?(?:Zone\.([LZ])|difference (true|false) (\d+) (\d+))")
+TIME_VALUE = re.compile(
+    r"time \(Clock\.(\w+)((?: \d+)+)\) (\d+) (\d+) \(?(?:Zone\.([LZ])|difference (true|false) (\d+) (\d+))"
+)
 
 LISTS = ROOT / "crates/lists/proofs/Laws/Checked.antt"
 LIST = re.compile(r'^ +list "([^"]*)" (\d+) (\d+) (\d+) (\d+) (\d+) ∷', re.M)
