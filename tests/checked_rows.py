@@ -24,7 +24,9 @@ SHOWN = re.compile(r'^ +shown (\(.*\)) "([^"]*)" refl refl ∷', re.M)
 SPELLED = re.compile(r'^ +spelled (\(.*\)) "([^"]*)" \(spelling (true|false) (true|false)\) refl ∷', re.M)
 NOT_OF_FORM = re.compile(r'^ +none DateForm\.(\w+) "([^"]*)" refl ∷', re.M)
 DATE_VALUE = re.compile(r"Date\.(\w+) \(yearAt \((\w+ \d+)\)\)((?: \d+)*)")
-TIME_VALUE = re.compile(r"time \(Clock\.(\w+)((?: \d+)+)\) (\d+) (\d+) \(?(?:Zone\.([LZ])|difference (true|false) (\d+) (\d+))")
+TIME_VALUE = re.compile(
+    r"time \(Clock\.(\w+)((?: \d+)+)\) (\d+) (\d+) \(?(?:Zone\.([LZ])|difference (true|false) (\d+) (\d+))"
+)
 
 LISTS = ROOT / "crates/lists/proofs/Laws/Checked.antt"
 LIST = re.compile(r'^ +list "([^"]*)" (\d+) (\d+) (\d+) (\d+) (\d+) ∷', re.M)

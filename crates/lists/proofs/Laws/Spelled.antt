@@ -49,7 +49,8 @@ pub data Word : List ℕ → Pair → Type 0 where
 -- ---- what is read is a word
 
 -- What holds where a text is the first word, and of its place among the others, holds of its place.
-place-case : (w : List ℕ) (P : ℕ → Type 0) (k : ℕ) (s : String) (ws : List String) → (w ≡ bytes s → P k) → P (placeFrom (suc k) ws w) → P (placeFrom k (s ∷ ws) w)
+place-case : (w : List ℕ) (P : ℕ → Type 0) (k : ℕ) (s : String) (ws : List String) → (w ≡ bytes s → P k) → P (placeFrom (suc k) ws w)
+    → P (placeFrom k (s ∷ ws) w)
 unfolding placeFrom
 place-case w P k s ws h r = go (eqList w (bytes s)) refl
   where

@@ -37,8 +37,8 @@ use Rattle.settings.proofs.Laws.Written.{dateList, dateTimeList, time-b
 pub data Reads (limits : Limits) (t : «Type») (l : List ℕ) : Type 0 where
   in-order : (p : Parts) → limitedTo limits (listed p) ≡ TypeRead.«Type» t → (wss : List (List (List ℕ))) → Arranged wss (listsFor p) → l ≡ typeText wss
       → Reads limits t l
-  swapped : (p : Parts) → limitedTo limits (listed p) ≡ TypeRead.«Type» t → (a b : List (List ℕ)) → Arranged (a ∷ b ∷ []) (listsFor p) → l ≡ typeText (b ∷ a ∷ [])
-      → Reads limits t l
+  swapped : (p : Parts) → limitedTo limits (listed p) ≡ TypeRead.«Type» t → (a b : List (List ℕ)) → Arranged (a ∷ b ∷ []) (listsFor p)
+      → l ≡ typeText (b ∷ a ∷ []) → Reads limits t l
 
 module _ (limits : Limits) (l : List ℕ) (t : «Type») (h : typeOf limits l ≡ TypeRead.«Type» t) (p : Parts) (w : wellParts p ≡ true) where
   reads-as : (wss : List (List (List ℕ))) → Arranged wss (listsFor p) → l ≡ typeText wss → Reads limits t l

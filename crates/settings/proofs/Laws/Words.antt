@@ -1,4 +1,4 @@
--- The words of the base settings: a text that is read as a setting is the word of that setting. And pieces are put together again.
+-- The words of the base settings, by the settings of a type; and pieces are put together again.
 use mathlib.Core.Path.{_≡_, refl, ap, sym, _∙_}
 use mathlib.Core.List.{List, [], _∷_, _++_, map}
 use mathlib.Core.Bool.{Bool, true, false, _&&_, cond, false≢true}
@@ -25,7 +25,7 @@ use Rattle.settings.proofs.Laws.Written.{yearNumber, timeCode}
 
 -- ---- words
 
--- The words of the base settings, each with its property and its number: there are no others.
+-- The words of the base settings, each with its property and its number.
 pub data Word : List ℕ → Pair → Type 0 where
   basic-date : Word (bytes "Basic=Date") (pair 0 1)
   basic-time : Word (bytes "Basic=Time") (pair 0 2)
@@ -39,6 +39,7 @@ pub data Word : List ℕ → Pair → Type 0 where
 fraction : (c : ClockForm) (n : ℕ) → 1 ≤ n → n ≤ 9 → Word (clockWord c ++ bytes "F" ++ (48 + n) ∷ []) (pair 3 (timeCode c n))
 fraction c n h k = let w = time c n k in rw (ne-eqb n 0 (λ z. omega arith)) at w
 
+-- The words that there are in lists are these.
 settings-word : (w : List ℕ) (p : Pair) → Spelled w p → Word w p
 settings-word w p spelled.basic-date = basic-date
 settings-word w p spelled.basic-time = basic-time

@@ -100,7 +100,8 @@ hms : (t : TimeType) → localHms t ≡ true → t ≡ hmsWith (t .hour24)
 hms t h =
     let p = both (eqb (clockNumber (t .form .clock)) 3 && eqb (t .form .digits) 0) (eqb (zoneNumber (t .form .zone)) 1) h in
     let q = both (eqb (clockNumber (t .form .clock)) 3) (eqb (t .form .digits) 0) (p .0) in
-    let c : t .form .clock ≡ ClockForm.HMS = by-number clockNumber clockAt clock-back (t .form .clock) ClockForm.HMS (eqb-true (clockNumber (t .form .clock)) 3 (q .0)) in
+    let e = eqb-true (clockNumber (t .form .clock)) 3 (q .0) in
+    let c : t .form .clock ≡ ClockForm.HMS = by-number clockNumber clockAt clock-back (t .form .clock) ClockForm.HMS e in
     let n = eqb-true (t .form .digits) 0 (q .1) in
     let z : t .form .zone ≡ ZoneForm.L = by-number zoneNumber zoneAt zone-back (t .form .zone) ZoneForm.L (eqb-true (zoneNumber (t .form .zone)) 1 (p .1)) in
     λ i. record { form = record { clock = c i; digits = n i; zone = z i }; hour24 = t .hour24 }
@@ -110,7 +111,8 @@ given-as Name.Listed (Parts.Date d) h o = date-list d (one-year (d .years) h)
 given-as Name.Listed (Parts.Time t) h o = time-list t (leb-true (t .form .digits) 9 h)
 given-as Name.Listed (Parts.DateTime d t) h o =
     let p = both (someYear (d .years)) (fewDigits t) h in date-time-list d t (one-year (d .years) (p .0)) (leb-true (t .form .digits) 9 (p .1))
-given-as Name.Date (Parts.Date d) h o = subst (λ (e : DateType). Given (record { name = Name.Date; parts = Parts.Date e })) (sym (ymd d o)) (DATE-named (d .window))
+given-as Name.Date (Parts.Date d) h o =
+    subst (λ (e : DateType). Given (record { name = Name.Date; parts = Parts.Date e })) (sym (ymd d o)) (DATE-named (d .window))
 given-as Name.Date (Parts.Time t) h o = absurd (false≢true o)
 given-as Name.Date (Parts.DateTime d t) h o = absurd (false≢true o)
 given-as Name.TimeOfDay (Parts.Date d) h o = absurd (false≢true o)

@@ -1,5 +1,5 @@
--- "A type holds a value, .. when ..", in the paper's words, and that `holdsOf` says exactly that; and the causes of 1 and 3 to 5 for a value and
--- for a text.
+-- "A type holds a value, .. when ..", in the paper's words, and that `holdsOf` says exactly that; and the causes of 1 and 3 to 5 for a value,
+-- for a text, and for a value's text as an answer.
 use mathlib.Core.Logic.{_≢_}
 use mathlib.Core.Path.{_≡_, refl, sym, ap, _∙_}
 use mathlib.Core.Bool.{Bool, true, false, cond, not, _||_, false≢true}
@@ -41,6 +41,7 @@ use Rattle.values.specs.Written.{written}
 use Rattle.values.specs.declared.admission.Admission.{Admission}
 use Rattle.values.specs.declared.admission.Judgement.{Judgement}
 use Rattle.values.proofs.Laws.Holding.{Setting, date-admitted, form-same, held, holds-both, in-type, inSetting, named-year, names, of-form, same-form, time-admitted, year-named}
+use Rattle.values.proofs.Laws.Exists.{ValueExists, exists-value, value-exists}
 use Rattle.values.proofs.Laws.Existing.{ShortYear, date-short, exists-fits, held-read}
 
 -- ---- what a type asks
@@ -66,7 +67,7 @@ pub data Admitted : Parts → Value → Type 0 where
 -- "A type holds a value, one that exists by the rules below, when the canonical text is of the type's form, each year is of a Year setting
 -- that the type names, and the type's restrictions are met."
 pub record Holding (t : Ty) (v : Value) : Type 0 where
-  pub exists : existsValue v ≡ true
+  pub exists : ValueExists v
   pub form : textNumber (readOf (formOf t) (textOf v)) ≡ 0
   pub admitted-is : Admitted (t .parts) v
 
@@ -167,13 +168,14 @@ module _ (t : Ty) (v : Value) where
   holding e =
       let p = held t v e in
       let q = in-type t v (p .1) in
-      record { exists = p .0; form = ap textNumber (held-read t v e canonical); admitted-is = admitted-words (t .parts) v (q .0) (q .1) }
+      record { exists = value-exists v (p .0); form = ap textNumber (held-read t v e canonical); admitted-is = admitted-words (t .parts) v (q .0) (q .1) }
 
   -- .. and the other way about.
   pub holds : Holding t v → holdsOf t v ≡ true
   holds h =
-      let f = form-shown t v (h .exists) (short-year (t .parts) v (h .admitted-is)) (h .form) in
-      holds-both t v (h .exists) (of-form t v f ∙ admitted-tests (t .parts) v (h .admitted-is))
+      let x = exists-value v (h .exists) in
+      let f = form-shown t v x (short-year (t .parts) v (h .admitted-is)) (h .form) in
+      holds-both t v x (of-form t v f ∙ admitted-tests (t .parts) v (h .admitted-is))
 
 -- ---- the causes of what is judged
 

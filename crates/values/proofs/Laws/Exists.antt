@@ -52,7 +52,8 @@ clock-exists hours minutes seconds fraction = go (eqb hours 24) refl
 time-exists : (t : Time) → existsTime t ≡ true → TimeExists t
 unfolding existsTime
 time-exists t e =
-    let p = three (existsClock (hoursOf (t .clock)) (minutesOf (t .clock)) (secondsOf (t .clock)) (t .fraction)) (existsFraction (t .digits) (t .fraction)) (existsZone (t .zone)) e in
+    let k = existsClock (hoursOf (t .clock)) (minutesOf (t .clock)) (secondsOf (t .clock)) (t .fraction) in
+    let p = three k (existsFraction (t .digits) (t .fraction)) (existsZone (t .zone)) e in
     let f = fraction-range (t .digits) (t .fraction) (p .1) in
     record { clock = clock-exists _ _ _ _ (p .0); digits = f .0; fraction = f .1; zone = zone-range (t .zone) (p .2) }
 
