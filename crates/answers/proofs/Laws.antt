@@ -1,3 +1,4 @@
 -- The laws of answers.
 pub mod Counts
 pub mod Outcomes
+pub mod Quoted

@@ -1,15 +1,13 @@
 -- Checked elements, with the octets that the reference gives: some of each tag, written and read; spellings that are read besides; and octets
 -- that give nothing. Only a table refuses a tag or a length that writer and reader share.
 use mathlib.Core.Path.{_≡_, refl}
-use mathlib.Core.Bool.{true, false, cond}
+use mathlib.Core.Bool.{true, false}
 use mathlib.Core.List.{List, [], _∷_}
 use mathlib.Core.Option.{Option, some, none}
-use Prim.Native.Nat.{ℕ, _+_, _-_, _*_}
-use Prim.Native.Char.{code}
-use Prim.Native.String as S
+use Prim.Native.Nat.{ℕ}
 use Prim.Native.String.{String}
-use lib.Dec.{ltb}
 use lib.IntN.{pos, negsuc}
+use Rattle.answers.proofs.Laws.Quoted.{hex}
 use Rattle.calendar.specs.Years.{astronomicalOf, yearAt}
 use Rattle.calendar.specs.declared.dates.Date.{Date}
 use Rattle.lists.specs.Octets.{eqList}
@@ -31,16 +29,6 @@ use Rattle.texts.specs.declared.values.Zone.{Zone}
 use Rattle.types.specs.declared.types.Name.{Name}
 use Rattle.der.specs.Elements.{contentsOf, element, elementOf, without}
 use Rattle.der.specs.Readings.{allDigits, digitsOnly, readElement, separated}
-
--- Octets that are quoted in hex.
-digit : ℕ → ℕ
-digit c = cond (ltb c 65) (c - 48) (c - 55)
-
-hex : String → List ℕ
-unfolding digit
-hex S.[] = []
-hex (S._∷_ c S.[]) = []
-hex (S._∷_ c (S._∷_ d s)) = (digit (code c) * 16 + digit (code d)) ∷ hex s
 
 -- Local time so far ahead of UTC, and so far behind it.
 abbrev ahead : ℕ → ℕ → Zone

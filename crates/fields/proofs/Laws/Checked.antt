@@ -12,7 +12,7 @@ use Rattle.fields.specs.Bits.{bitsOf, numberIn, packed, octetsOf, unpack
 use Rattle.fields.specs.Integers.{half, within, fewest, twos, fromTwos}
 use Rattle.fields.specs.Fields.{Field, Ranged, Free, binaryDigits, width, fieldBits, fieldWidth}
 use Rattle.fields.specs.Readings.{Found, found, nothing, onward, readBits, readRanged, readFree}
-use Rattle.fields.proofs.Laws.Quoted.{hex}
+use Rattle.answers.proofs.Laws.Quoted.{hex}
 
 -- a range, a number of it, how many bits it has and the octets that they fill; an integer and its octets, the fewest possible, or more;
 -- octets that give no number of a range, or no integer

@@ -29,7 +29,7 @@ use Rattle.fields.specs.Bits.{bitsOf, numberIn, packed, octetsOf, unpacked}
 use Rattle.fields.specs.Integers.{half, within, fewest, twos, fromTwos}
 use Rattle.fields.specs.Fields.{binaryDigits, width, fieldBits, layout, fieldWidth, bitCount}
 use Rattle.fields.specs.Readings.{Found, found, nothing, _>>=_, aRanged, aFree, require, readBits, readRanged, readFree, run}
-use Rattle.fields.proofs.Laws.Quoted.{hex}
+use Rattle.answers.proofs.Laws.Quoted.{hex}
 use Rattle.rows.specs.declared.YearRow.{YearRow}
 use Rattle.rows.specs.Fields.{yearRowOf, otherYear, choiceOfYear, yearFields, dayFields, dateFields, clockFields, longFraction, fractionFields, hoursField, differenceFields, zoneFields, timeFields, fieldsOf}
 use Rattle.rows.specs.Readings.{readChoice, readYear, readDay, readDate, readClock, natural, readExtended, readFraction, readMinutes, differenceAt, readZone, readTime, readValue, readOctets}
