@@ -1,14 +1,14 @@
 -- The theorems: each claim of specs/Demands.antt is proved under its name. What they rest on stands in Laws/Exchanges and Laws/Causes, for any kind.
 use mathlib.Core.Logic.{_≢_}
 use mathlib.Core.Path.{_≡_, refl, ap, sym, _∙_}
-use mathlib.Core.Bool.{Bool, true, false}
+use mathlib.Core.Bool.{Bool, true}
 use mathlib.Core.List.{List}
 use mathlib.Core.Option.{Option, some, none}
 use Prim.Native.Nat.{ℕ}
 use native.Mathlib.Omega.{arith}
 use lib.Dec.{eqb}
 use borrow.Author.Tests.{eq-eqb, ne-eqb}
-use Rattle.answers.specs.Outcomes.{Answer, refused, outcomeOf}
+use Rattle.answers.specs.Outcomes.{Answer, outcomeOf}
 use Rattle.answers.specs.declared.refusals.Refusal.{Refusal}
 use Rattle.calendar.proofs.Laws.Bools.{both}
 use Rattle.texts.specs.Texts.{readOf, render, textOf}
@@ -27,7 +27,6 @@ use Rattle.rows.specs.Fields.{yearRowOf}
 use Rattle.rows.specs.Readings.{readOctets}
 use Rattle.rows.proofs.Laws.SameRows.{same-form, same-rows}
 use Rattle.unpacking.specs.Unpacked.{valueIn, valueNumber}
-use Rattle.kinds.specs.Coding.{compared, decoded, encoded}
 use Rattle.kinds.specs.Kinds.{holds, readNumber}
 use Rattle.kinds.specs.Lawful.{Holds}
 use Rattle.kinds.proofs.Laws.Coding as Coding

@@ -1,6 +1,6 @@
 -- The encoder and the decoder of a kind: "Each is given exactly then. When several hold, the lowest number is given."
 use Prim.Native.Nat.{ℕ}
-use mathlib.Core.Bool.{Bool, cond}
+use mathlib.Core.Bool.{cond}
 use mathlib.Core.List.{List}
 use Rattle.answers.specs.Outcomes.{Answer, done, refused}
 use Rattle.answers.specs.declared.refusals.Refusal.{Refusal}

@@ -2,7 +2,7 @@
 -- 1749 to 2276, a fraction up to 999 after a 1 bit, filling not zero, .. octets left over".
 use mathlib.Core.Path.{_≡_}
 use Prim.Native.Nat.{ℕ, zero, suc}
-use mathlib.Core.Bool.{Bool, true, false, cond}
+use mathlib.Core.Bool.{Bool, true, cond}
 use mathlib.Core.List.{List, [], _++_}
 use lib.IntN.{ℤ}
 use Rattle.calendar.specs.Years.{astronomicalOf}

@@ -18,7 +18,7 @@ use Rattle.texts.specs.declared.values.Time.{Time}
 use Rattle.texts.specs.declared.values.Value.{Value}
 use Rattle.texts.specs.declared.values.Zone.{Zone}
 use Rattle.fields.specs.Bits.{unpacked}
-use Rattle.fields.specs.Readings.{Found, found, nothing, Reading, give, refuse, _>>=_, aRanged, aFree, require, run}
+use Rattle.fields.specs.Readings.{Found, Reading, give, refuse, _>>=_, aRanged, aFree, require, run}
 use Rattle.rows.specs.declared.YearRow.{YearRow}
 
 -- The year after its two choice bits; "3: other years", of any number.

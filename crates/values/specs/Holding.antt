@@ -4,7 +4,6 @@ use lib.Dec.{eqb}
 use lib.IntN.{ℤ, pos, negsuc}
 use lib.Signed.{leZ}
 use Rattle.calendar.specs.Years.{astronomicalOf}
-use Rattle.calendar.specs.declared.years.Year.{Year}
 use Rattle.calendar.specs.declared.dates.Date.{Date}
 use Rattle.texts.specs.declared.values.Time.{Time}
 use Rattle.texts.specs.declared.values.Value.{Value}

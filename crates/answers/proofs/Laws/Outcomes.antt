@@ -2,7 +2,6 @@
 use mathlib.Core.Path.{_≡_, refl, sym, ap, _∙_}
 use mathlib.Core.Bool.{Bool, true, false, cond}
 use mathlib.Core.List.{List, [], _∷_, _++_}
-use mathlib.Core.Logic.{_⊎_, inl, inr}
 use Prim.Native.Nat.{ℕ, suc, _+_, _≤_, _<_}
 use native.Mathlib.Nat.{le-of-lt}
 use native.Mathlib.Numerals.{add-one}
@@ -56,11 +55,11 @@ number-range Refusal.Room = omega arith
 
 -- In the order of the paper's table: "settings unreadable", "two lists that don't make one row", "not of the type's form", "no such date,
 -- time or difference", "exists, but not in the type", "not what the encoder writes", "the lent room is shorter than the result".
-pub seven-numbers : _≡_ {A = List ℕ}
+pub numbers-in-order : _≡_ {A = List ℕ}
     (numberOf Refusal.Settings ∷ numberOf Refusal.Rows ∷ numberOf Refusal.Form ∷ numberOf Refusal.Existence ∷ numberOf Refusal.Membership
     ∷ numberOf Refusal.Encoding ∷ numberOf Refusal.Room ∷ [])
     (1 ∷ 2 ∷ 3 ∷ 4 ∷ 5 ∷ 6 ∷ 7 ∷ [])
-seven-numbers = refl
+numbers-in-order = refl
 
 -- An answer meets a lent room in one of three ways: the result has its place, the room is shorter, or there is no result.
 module _ (result room : List ℕ) (bits : Bits) where

@@ -1,6 +1,6 @@
 -- DER meets what is asked of a kind.
 use mathlib.Core.Path.{_≡_, refl, ap, sym, _∙_}
-use mathlib.Core.Bool.{true, false, cond, false≢true}
+use mathlib.Core.Bool.{true, cond, false≢true}
 use mathlib.Core.List.{List, [], _∷_, _++_, append-nil}
 use Prim.Native.Nat.{ℕ, _+_, _≤_}
 use native.Mathlib.Omega.{arith}
@@ -35,7 +35,7 @@ use Rattle.values.specs.Holding.{admits, admitsDate}
 use Rattle.values.proofs.Laws.Existing.{exists-digits}
 use Rattle.values.proofs.Laws.Holding.{in-type}
 use Rattle.lists.specs.Octets.{eqList}
-use mathlib.Core.Option.{some, none}
+use mathlib.Core.Option.{some}
 use Rattle.kinds.specs.Coding.{judgedAs}
 use Rattle.kinds.specs.Lawful.{Accepted, Holds, Lawful}
 use Rattle.kinds.proofs.Laws.Coding as Coding

@@ -29,7 +29,7 @@ use Rattle.values.specs.declared.admission.Admission.{Admission}
 use Rattle.values.specs.declared.admission.Judgement.{Judgement}
 use Rattle.values.proofs.Laws.Existing.{exists-digits, held-fits, held-read}
 use Rattle.values.proofs.Laws.Holding.{form-same, held, holds-both, in-type, same-form}
-use mathlib.Core.Option.{Option, some, none}
+use mathlib.Core.Option.{some}
 use Rattle.kinds.specs.Coding.{encoded, decoded, judgedText, judgedAs}
 use Rattle.kinds.specs.Kinds.{holds, readNumber}
 use Rattle.kinds.specs.Lawful.{Holds, Notation}

@@ -1,23 +1,20 @@
 -- Readings: one after the other; over fields and from bits, which are one.
 use mathlib.Core.Path.{_≡_, refl, ap, sym, _∙_}
-use mathlib.Core.Bool.{Bool, true, false, cond, _&&_, false≢true}
+use mathlib.Core.Bool.{Bool, true, false, cond, _&&_}
 use mathlib.Core.List.{List, [], _∷_, _++_, append-assoc}
 use Prim.Native.Nat.{ℕ, _*_, _-_, _≤_}
 use lib.Dec.{leb, ltb, eqb}
 use lib.IntN.{ℤ}
-use lib.ListN.{replicate}
 use borrow.Author.Tests.{le-leb, lt-ltb, leb-true, ltb-true, eqb-true, eq-eqb}
-use Rattle.answers.specs.Counts.{octetsFor}
-use Rattle.fields.specs.Bits.{BitString, bitsOf, octetsOf, unpacked}
+use Rattle.fields.specs.Bits.{BitString, bitsOf}
 use Rattle.fields.specs.Integers.{within, fewest, twos}
-use Rattle.fields.specs.Fields.{Field, Ranged, Free, width, fieldBits, layout, bitCount}
-use Rattle.fields.specs.Readings.{Found, found, nothing, onward, Reading, give, ranged, free, refuse, _>>=_, aRanged, aFree, require, readRanged, readFree, run, over}
+use Rattle.fields.specs.Fields.{Field, Ranged, Free, width, fieldBits, layout}
+use Rattle.fields.specs.Readings.{Found, found, nothing, onward, Reading, give, ranged, free, refuse, _>>=_, aRanged, aFree, readRanged, readFree, run, over}
 use Rattle.fields.specs.Spelled.{SpelledField, Range, Integer, spelledFields, wellSpelled, spelledBits}
 use Rattle.fields.proofs.Laws.Cases.{by-test, both}
 use Rattle.fields.proofs.Laws.Found.{nothing-not, found-value, found-rest, found-more}
-use Rattle.fields.proofs.Laws.Bits.{unpacked-octets}
 use Rattle.fields.proofs.Laws.Integers.{within-more, fewest-fits}
-use Rattle.fields.proofs.Laws.Fields.{length-layout, read-ranged, read-ranged-only, read-free, read-free-only}
+use Rattle.fields.proofs.Laws.Fields.{read-ranged, read-ranged-only, read-free, read-free-only}
 
 -- ---- one after the other
 

@@ -1,6 +1,6 @@
 -- Replies, from the octets that are stored to the line.
-use mathlib.Core.Path.{_≡_, refl, ap, sym, _∙_}
-use mathlib.Core.Bool.{true, false, and-false}
+use mathlib.Core.Path.{_≡_, refl, ap, _∙_}
+use mathlib.Core.Bool.{true, and-false}
 use mathlib.Core.List.{List, _∷_, _++_}
 use Prim.Native.Nat.{ℕ, _+_, _-_, _<_, _≤_}
 use native.Mathlib.Numerals.{add-one}
@@ -12,7 +12,6 @@ use borrow.Author.Tests.{eq-eqb, ne-eqb, le-leb, lt-leb, lt-ltb, le-ltb}
 use Rattle.answers.specs.declared.counts.Bits.{Bits}
 use Rattle.answers.specs.declared.outcomes.Outcome.{Outcome}
 use Rattle.answers.specs.Outcomes.{Answer, done, refused, outcomeOf, roomOf}
-use Rattle.answers.specs.Refusals.{numberOf}
 use Rattle.lists.specs.Lists.{spanTo}
 use Rattle.lists.specs.Octets.{bytes}
 use Rattle.printing.specs.Stores.{StoredText}

@@ -1,7 +1,7 @@
 -- What a type holds has each part in the range of its field.
 use mathlib.Core.Path.{_≡_, refl}
-use mathlib.Core.Bool.{Bool, true, false, _&&_, cond}
-use Prim.Native.Nat.{ℕ, suc, _*_, _-_, _^_, _≤_, _<_}
+use mathlib.Core.Bool.{Bool, true, false, cond}
+use Prim.Native.Nat.{ℕ, _-_, _^_, _≤_, _<_}
 use native.Mathlib.Omega.{arith}
 use native.Mathlib.Nat.{pow-le-pow-right}
 use lib.Dec.{leb}
@@ -11,7 +11,6 @@ use borrow.Author.Tests.{le-leb, lt-ltb}
 use Rattle.calendar.specs.Dates.{existsOf}
 use Rattle.calendar.specs.Years.{astronomicalOf}
 use Rattle.calendar.specs.declared.dates.Date.{Date}
-use Rattle.calendar.specs.declared.years.Year.{Year}
 use Rattle.calendar.proofs.Laws.Bools.{both}
 use Rattle.calendar.proofs.Laws.Dates.{InRange, in-range}
 use Rattle.texts.specs.Forms.{yearOf}

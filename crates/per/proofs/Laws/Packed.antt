@@ -1,15 +1,13 @@
 -- The octets of an encoding in the buffer of `packing`.
-use mathlib.Core.Path.{_≡_, refl, ap, sym, _∙_}
-use mathlib.Core.List.{List, _++_}
-use Prim.Native.Nat.{ℕ, _+_, _/_, _≤_}
+use mathlib.Core.Path.{_≡_, refl, ap, _∙_}
+use Prim.Native.Nat.{ℕ, _≤_}
 use native.Mathlib.Omega.{arith}
 use lib.ListN.{length, take, drop, replicate}
 use lib.Seq.{take-at}
 use Rattle.answers.specs.Counts.{octetsFor}
-use Rattle.answers.specs.declared.counts.Bits.{Bits}
 use Rattle.texts.specs.declared.values.Value.{Value}
 use Rattle.fields.specs.Bits.{octetsOf}
-use Rattle.fields.specs.Fields.{layout, bitCount}
+use Rattle.fields.specs.Fields.{layout}
 use Rattle.fields.proofs.Laws.Bits.{length-octets}
 use Rattle.fields.proofs.Laws.Fields.{length-layout}
 use Rattle.rows.specs.Fields.{fieldsOf}

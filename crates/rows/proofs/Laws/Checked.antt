@@ -14,7 +14,6 @@ use Rattle.texts.specs.Forms.{dateForm, timeForm, valueForm}
 use Rattle.texts.specs.declared.forms.ClockForm.{ClockForm}
 use Rattle.texts.specs.declared.forms.DateForm.{DateForm}
 use Rattle.texts.specs.declared.forms.Form.{Form}
-use Rattle.texts.specs.declared.forms.TimeForm.{TimeForm}
 use Rattle.texts.specs.declared.forms.ZoneForm.{ZoneForm}
 use Rattle.texts.specs.declared.values.Clock.{Clock}
 use Rattle.texts.specs.declared.values.Time.{Time}

@@ -1,14 +1,14 @@
 -- What is read from bits and from octets: exactly the loose spellings of a value, whatever follows; and what was laid out.
 use mathlib.Core.Path.{_≡_}
 use mathlib.Core.Bool.{true, false}
-use mathlib.Core.List.{List, _++_}
-use Prim.Native.Nat.{ℕ, _*_, _-_}
+use mathlib.Core.List.{_++_}
+use Prim.Native.Nat.{_*_, _-_}
 use lib.ListN.{length, replicate}
 use Rattle.answers.specs.Counts.{octetsFor}
 use Rattle.texts.specs.Forms.{valueForm}
 use Rattle.texts.specs.declared.forms.Form.{Form}
 use Rattle.texts.specs.declared.values.Value.{Value}
-use Rattle.fields.specs.Bits.{BitString, octetsOf, unpacked}
+use Rattle.fields.specs.Bits.{BitString, octetsOf}
 use Rattle.fields.specs.Fields.{layout}
 use Rattle.fields.specs.Readings.{found, run}
 use Rattle.fields.specs.Spelled.{spelledFields}

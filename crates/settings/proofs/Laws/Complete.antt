@@ -1,5 +1,5 @@
 -- Completeness: every well-formed type that is no name is read from its settings, their pairs in any order.
-use mathlib.Core.Path.{_≡_, refl, ap, _∙_}
+use mathlib.Core.Path.{_≡_, refl, _∙_}
 use mathlib.Core.List.{List, [], _∷_, map, List·Permᴰ, Permᴰ·refl}
 use mathlib.Core.Bool.{Bool, true, false, cond, and-eq-true-iff, or-true}
 use Prim.Native.Nat.{ℕ, _<_, _≤_}
@@ -7,7 +7,7 @@ use native.Mathlib.Omega.{arith}
 use lib.ListN.{length}
 use borrow.Author.Tests.{leb-true}
 use Rattle.lists.specs.Octets.{bytes, eqList}
-use Rattle.types.specs.Types.{listed, DATE, TIME-OF-DAY, DATE-TIME, everyYear, hasDate, hasTime, placed, restricted, limitedTo, noLimits, limitsOf, someYear, fewDigits, wellParts, wellFormed}
+use Rattle.types.specs.Types.{listed, DATE, TIME-OF-DAY, DATE-TIME, everyYear, hasDate, hasTime, placed, restricted, limitedTo, limitsOf, someYear, fewDigits, wellParts, wellFormed}
 use Rattle.settings.specs.TypeTexts.{allOf, joined, typeOf}
 use Rattle.settings.specs.Written.{YearSetting, basic, dateWords, timeWords, dateTimeWords, namedYears, listsFor, joinWith, typeText, Arranged, end, more}
 use Rattle.texts.specs.declared.forms.DateForm.{DateForm}

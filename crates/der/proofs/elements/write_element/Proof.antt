@@ -1,6 +1,6 @@
 -- `elements::write_element` meets its contract: the room is shorter and stays as it was, or the element has its place.
-use mathlib.Core.Path.{_≡_, ap, refl, sym, _∙_}
-use Prim.Native.Nat.{ℕ, _+_, _≤_}
+use mathlib.Core.Path.{_≡_, refl, _∙_}
+use Prim.Native.Nat.{_+_, _≤_}
 use native.Mathlib.Omega.{arith}
 use lib.ListN.{length}
 use Rattle.answers.proofs.Laws.Outcomes.{left-out, put-in}

@@ -1,7 +1,7 @@
 -- `elements::write_value` meets its contract: the text of a value is short.
 use mathlib.Core.Path.{_≡_, sym}
 use native.Mathlib.Omega.{arith}
-use lib.ListN.{length, take}
+use lib.ListN.{length}
 use lib.Seq.{length-take-le}
 use Rattle.printing.specs.Canonical.{textCapacity}
 use Rattle.values.proofs.Laws.Existing.{printed-text, text-short, text-taken}

@@ -1,6 +1,6 @@
 -- `hex::read_hex` meets its contract: what is left to read decides.
 use mathlib.Core.Path.{_≡_, _∙_, ap, refl, sym}
-use Prim.Native.Nat.{_+_, _*_, _-_, _≤_}
+use Prim.Native.Nat.{_*_, _-_, _≤_}
 use native.Mathlib.Omega.{arith}
 use lib.ListN.{length, drop, take, length-set}
 use Rattle.lines.specs.Lines.{fromHex}
