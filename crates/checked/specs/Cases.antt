@@ -17,21 +17,21 @@ abbrev pub largest : ℕ
 largest = 24
 
 -- Limits of a window of years, and whether hour 24 is allowed.
-abbrev pub within : ℤ → ℤ → Bool → Limits
-within lowest highest hour24 = record { window = Window.Within (yearAt lowest) (yearAt highest); hour24 = hour24 }
+abbrev pub windowOf : ℤ → ℤ → Bool → Limits
+windowOf lowest highest hour24 = record { window = Window.Within (yearAt lowest) (yearAt highest); hour24 = hour24 }
 
 -- The limits that the cases' restrictions make; `negsuc 43` is -44.
-abbrev pub limitsOf : Bounds → Limits
-limitsOf Bounds.None = noLimits
-limitsOf Bounds.Decade = within (pos 2000) (pos 2010) true
-limitsOf Bounds.Reversed = within (pos 2010) (pos 2000) true
-limitsOf Bounds.Single = within (negsuc 43) (negsuc 43) true
-limitsOf Bounds.No24 = record { window = Window.Every; hour24 = false }
-limitsOf Bounds.DecadeNo24 = within (pos 2000) (pos 2010) false
+abbrev pub limitsOfBounds : Bounds → Limits
+limitsOfBounds Bounds.None = noLimits
+limitsOfBounds Bounds.Decade = windowOf (pos 2000) (pos 2010) true
+limitsOfBounds Bounds.Reversed = windowOf (pos 2010) (pos 2000) true
+limitsOfBounds Bounds.Single = windowOf (negsuc 43) (negsuc 43) true
+limitsOfBounds Bounds.No24 = record { window = Window.Every; hour24 = false }
+limitsOfBounds Bounds.DecadeNo24 = windowOf (pos 2000) (pos 2010) false
 
 -- What the entry point of a work answers.
-abbrev pub answerOf : Work → List ℕ → Limits → List ℕ → Answer
-answerOf Work.Per settings limits input = perEncode settings limits input
-answerOf Work.Unper settings limits input = perDecode settings limits input
-answerOf Work.Der settings limits input = derEncode settings limits input
-answerOf Work.Under settings limits input = derDecode settings limits input
+abbrev pub answerToWork : Work → List ℕ → Limits → List ℕ → Answer
+answerToWork Work.Per settings limits input = perEncode settings limits input
+answerToWork Work.Unper settings limits input = perDecode settings limits input
+answerToWork Work.Der settings limits input = derEncode settings limits input
+answerToWork Work.Under settings limits input = derDecode settings limits input

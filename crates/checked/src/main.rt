@@ -15,7 +15,7 @@ ghost use Prim.Native.Nat.{_+_, _<_, _≤_};
 ghost use lib.ListN.{length};
 ghost use Rattle.answers.specs.Outcomes.{outcomeOf, roomOf};
 ghost use Rattle.lines.specs.Lines.{hexDigit};
-ghost use Rattle.checked.specs.Cases.{answerOf, largest, limitsOf, within};
+ghost use Rattle.checked.specs.Cases.{answerToWork, largest, limitsOfBounds, windowOf};
 
 // The largest room that is lent.
 const LARGEST: usize = 24;
@@ -41,7 +41,7 @@ enum Bounds {
 
 // Limits of a window of years, and whether hour 24 is allowed.
 fn years(lowest: i32, highest: i32, hour24: bool) -> Limits
-    ensures { λ r. ⌜ r ≡ within lowest highest hour24 ⌝ }
+    ensures { λ r. ⌜ r ≡ windowOf lowest highest hour24 ⌝ }
 {
     let window = Window::Within(Year::of(lowest), Year::of(highest));
     Limits { window, hour24 }
@@ -49,7 +49,7 @@ fn years(lowest: i32, highest: i32, hour24: bool) -> Limits
 
 // The limits of the restrictions.
 fn limits_of(bounds: Bounds) -> Limits
-    ensures { λ r. ⌜ r ≡ limitsOf bounds ⌝ }
+    ensures { λ r. ⌜ r ≡ limitsOfBounds bounds ⌝ }
 {
     match bounds {
         Bounds::None => Limits::NONE,
@@ -66,8 +66,8 @@ fn limits_of(bounds: Bounds) -> Limits
 
 // One call of an entry point.
 fn call(work: Work, settings: &[u8], limits: Limits, input: &[u8], room: &mut [u8]) -> Outcome
-    ensures { λ r. ⌜ r ≡ outcomeOf (answerOf work (now (settings .entry)) limits (now (input .entry))) (now (room .entry)) ⌝ }
-    ensures { λ _. ⌜ now (room .exit) ≡ roomOf (answerOf work (now (settings .entry)) limits (now (input .entry))) (now (room .entry)) ⌝ }
+    ensures { λ r. ⌜ r ≡ outcomeOf (answerToWork work (now (settings .entry)) limits (now (input .entry))) (now (room .entry)) ⌝ }
+    ensures { λ _. ⌜ now (room .exit) ≡ roomOf (answerToWork work (now (settings .entry)) limits (now (input .entry))) (now (room .entry)) ⌝ }
 {
     match work {
         Work::Per => per_encode(settings, limits, input, room),

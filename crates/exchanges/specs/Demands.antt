@@ -99,7 +99,8 @@ pub record LimitsStand (given : GivenLimits) (l : Limits) : Type 0 where
 
 -- Under these limits the answer is the entry point's, so that all that is claimed is of both; a count has no place, which is 1.
 pub record FromC (given : GivenLimits) : Type 0 where
-  pub limits-are : given .counts ≡ 0 → (l : Limits) × LimitsStand given l × ((e : Entry) (settings input : List ℕ) → answerInC e settings given input ≡ answerOf e settings l input)
+  pub limits-are : given .counts ≡ 0
+      → (l : Limits) × LimitsStand given l × ((e : Entry) (settings input : List ℕ) → answerInC e settings given input ≡ answerOf e settings l input)
   pub no-count : given .counts ≢ 0 → (e : Entry) (settings input room : List ℕ) → Refused (answerInC e settings given input) room 1
 
 abbrev pub LimitsFromC : Type 0
@@ -245,7 +246,8 @@ TypesTold = (e : Entry) (settings : List ℕ) (limits : Limits) (input room : Li
 
 -- .. of a text under the type, ..
 abbrev pub TextsTold : Type 0
-TextsTold = (settings : List ℕ) (limits : Limits) (t : Ty) → typeOf limits settings ≡ TypeRead.«Type» t → (text room : List ℕ) → admissionNumber (admitted t text) ≢ 0
+TextsTold = (settings : List ℕ) (limits : Limits) (t : Ty) → typeOf limits settings ≡ TypeRead.«Type» t → (text room : List ℕ)
+    → admissionNumber (admitted t text) ≢ 0
     → (outcomeOf (perEncode settings limits text) room .number ≡ admissionNumber (admitted t text))
     × (outcomeOf (derEncode settings limits text) room .number ≡ admissionNumber (admitted t text))
 

@@ -50,9 +50,9 @@ abbrev pub unasked : List ℕ
 unasked = bytes "?\n"
 
 -- "the number and, after 0, the hex or text"
-abbrev pub shown : (List ℕ → List ℕ) → Answer → List ℕ
-shown show (done result bits) = bytes "0 " ++ show result ++ bytes "\n"
-shown show (refused why) = (48 + numberOf why) ∷ bytes "\n"
+abbrev pub answerShown : (List ℕ → List ℕ) → Answer → List ℕ
+answerShown show (done result bits) = bytes "0 " ++ show result ++ bytes "\n"
+answerShown show (refused why) = (48 + numberOf why) ∷ bytes "\n"
 
 abbrev pub asText : List ℕ → List ℕ
 asText text = text
@@ -65,10 +65,10 @@ ofOctets reply none = unasked
 -- "work per, der, unper or under; hex input for the last two"
 unfoldable pub worked : List ℕ → List ℕ → List ℕ → List ℕ
 worked work settings input =
-    cond (eqList work (bytes "per")) (shown toHex (perEncode settings noLimits input))
-    (cond (eqList work (bytes "der")) (shown toHex (derEncode settings noLimits input))
-    (cond (eqList work (bytes "unper")) (ofOctets (λ octets. shown asText (perDecode settings noLimits octets)) (fromHex input))
-    (cond (eqList work (bytes "under")) (ofOctets (λ octets. shown asText (derDecode settings noLimits octets)) (fromHex input))
+    cond (eqList work (bytes "per")) (answerShown toHex (perEncode settings noLimits input))
+    (cond (eqList work (bytes "der")) (answerShown toHex (derEncode settings noLimits input))
+    (cond (eqList work (bytes "unper")) (ofOctets (λ octets. answerShown asText (perDecode settings noLimits octets)) (fromHex input))
+    (cond (eqList work (bytes "under")) (ofOctets (λ octets. answerShown asText (derDecode settings noLimits octets)) (fromHex input))
     unasked)))
 
 -- What follows the first semicolon, cut at its own first one.

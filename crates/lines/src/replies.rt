@@ -8,7 +8,7 @@ ghost use Rattle.printing.specs.Canonical.{textCapacity};
 ghost use Rattle.printing.specs.Stores.{StoredText};
 ghost use Rattle.types.specs.Types.{noLimits};
 ghost use Rattle.exchanges.specs.Coding.{perEncode, perDecode, derEncode, derDecode};
-ghost use Rattle.lines.specs.Lines.{asText, cutAgain, fromHex, longestLine, ofOctets, shown, toHex, unasked, worked};
+ghost use Rattle.lines.specs.Lines.{asText, cutAgain, fromHex, longestLine, ofOctets, answerShown, toHex, unasked, worked};
 ghost use Rattle.lines.specs.Rooms.{replyCapacity, replyLength, roomWith};
 ghost use Rattle.lines.specs.Steps.{replyTo};
 use crate::hex::Hex;
@@ -101,7 +101,7 @@ fn text_reply(number: u32, count: usize, buffer: &[u8], room: &mut [u8]) -> usiz
 // The reply to `per`.
 fn per_reply(settings: &[u8], text: &[u8], room: &mut [u8]) -> usize
     requires { ⌜ replyCapacity ≤ length (now room) ⌝ }
-    ensures { λ r. ⌜ StoredText (now (room .entry)) (now (room .exit)) 0 (shown toHex (perEncode (now (settings .entry)) noLimits (now (text .entry)))) r ⌝ }
+    ensures { λ r. ⌜ StoredText (now (room .entry)) (now (room .exit)) 0 (answerShown toHex (perEncode (now (settings .entry)) noLimits (now (text .entry)))) r ⌝ }
     ensures { λ r. ⌜ r ≤ replyCapacity ⌝ }
 {
     let mut buffer = [0u8; TEXT_CAPACITY];
@@ -112,7 +112,7 @@ fn per_reply(settings: &[u8], text: &[u8], room: &mut [u8]) -> usize
 // The reply to `der`.
 fn der_reply(settings: &[u8], text: &[u8], room: &mut [u8]) -> usize
     requires { ⌜ replyCapacity ≤ length (now room) ⌝ }
-    ensures { λ r. ⌜ StoredText (now (room .entry)) (now (room .exit)) 0 (shown toHex (derEncode (now (settings .entry)) noLimits (now (text .entry)))) r ⌝ }
+    ensures { λ r. ⌜ StoredText (now (room .entry)) (now (room .exit)) 0 (answerShown toHex (derEncode (now (settings .entry)) noLimits (now (text .entry)))) r ⌝ }
     ensures { λ r. ⌜ r ≤ replyCapacity ⌝ }
 {
     let mut buffer = [0u8; TEXT_CAPACITY];
@@ -123,7 +123,7 @@ fn der_reply(settings: &[u8], text: &[u8], room: &mut [u8]) -> usize
 // The reply to octets in unaligned PER.
 fn octets_reply(settings: &[u8], octets: &[u8], room: &mut [u8]) -> usize
     requires { ⌜ replyCapacity ≤ length (now room) ⌝ }
-    ensures { λ r. ⌜ StoredText (now (room .entry)) (now (room .exit)) 0 (shown asText (perDecode (now (settings .entry)) noLimits (now (octets .entry)))) r ⌝ }
+    ensures { λ r. ⌜ StoredText (now (room .entry)) (now (room .exit)) 0 (answerShown asText (perDecode (now (settings .entry)) noLimits (now (octets .entry)))) r ⌝ }
     ensures { λ r. ⌜ r ≤ replyCapacity ⌝ }
 {
     let mut buffer = [0u8; TEXT_CAPACITY];
@@ -134,7 +134,7 @@ fn octets_reply(settings: &[u8], octets: &[u8], room: &mut [u8]) -> usize
 // The reply to octets in DER.
 fn element_reply(settings: &[u8], octets: &[u8], room: &mut [u8]) -> usize
     requires { ⌜ replyCapacity ≤ length (now room) ⌝ }
-    ensures { λ r. ⌜ StoredText (now (room .entry)) (now (room .exit)) 0 (shown asText (derDecode (now (settings .entry)) noLimits (now (octets .entry)))) r ⌝ }
+    ensures { λ r. ⌜ StoredText (now (room .entry)) (now (room .exit)) 0 (answerShown asText (derDecode (now (settings .entry)) noLimits (now (octets .entry)))) r ⌝ }
     ensures { λ r. ⌜ r ≤ replyCapacity ⌝ }
 {
     let mut buffer = [0u8; TEXT_CAPACITY];
@@ -145,7 +145,7 @@ fn element_reply(settings: &[u8], octets: &[u8], room: &mut [u8]) -> usize
 // The reply to `unper`.
 fn unper_reply(settings: &[u8], hex: &[u8], room: &mut [u8]) -> usize
     requires { ⌜ (length (now hex) ≤ longestLine) × (replyCapacity ≤ length (now room)) ⌝ }
-    ensures { λ r. ⌜ StoredText (now (room .entry)) (now (room .exit)) 0 (ofOctets (λ octets. shown asText (perDecode (now (settings .entry)) noLimits octets)) (fromHex (now (hex .entry)))) r ⌝ }
+    ensures { λ r. ⌜ StoredText (now (room .entry)) (now (room .exit)) 0 (ofOctets (λ octets. answerShown asText (perDecode (now (settings .entry)) noLimits octets)) (fromHex (now (hex .entry)))) r ⌝ }
     ensures { λ r. ⌜ r ≤ replyCapacity ⌝ }
 {
     let mut buffer = [0u8; HEX_CAPACITY];
@@ -158,7 +158,7 @@ fn unper_reply(settings: &[u8], hex: &[u8], room: &mut [u8]) -> usize
 // The reply to `under`.
 fn under_reply(settings: &[u8], hex: &[u8], room: &mut [u8]) -> usize
     requires { ⌜ (length (now hex) ≤ longestLine) × (replyCapacity ≤ length (now room)) ⌝ }
-    ensures { λ r. ⌜ StoredText (now (room .entry)) (now (room .exit)) 0 (ofOctets (λ octets. shown asText (derDecode (now (settings .entry)) noLimits octets)) (fromHex (now (hex .entry)))) r ⌝ }
+    ensures { λ r. ⌜ StoredText (now (room .entry)) (now (room .exit)) 0 (ofOctets (λ octets. answerShown asText (derDecode (now (settings .entry)) noLimits octets)) (fromHex (now (hex .entry)))) r ⌝ }
     ensures { λ r. ⌜ r ≤ replyCapacity ⌝ }
 {
     let mut buffer = [0u8; HEX_CAPACITY];

@@ -51,16 +51,16 @@ zoneWord ZoneForm.Z = bytes "Local-or-UTC=Z"
 zoneWord ZoneForm.LD = bytes "Local-or-UTC=LD"
 
 -- The pairs of a list with a date, ..
-abbrev pub dateWords : DateForm → YearSetting → List (List ℕ)
-dateWords f y = bytes "Basic=Date" ∷ dateWord f ∷ yearWord y ∷ []
+abbrev pub datePairs : DateForm → YearSetting → List (List ℕ)
+datePairs f y = bytes "Basic=Date" ∷ dateWord f ∷ yearWord y ∷ []
 
 -- .. with a time, ..
-abbrev pub timeWords : TimeForm → List (List ℕ)
-timeWords t = bytes "Basic=Time" ∷ timeWord (t .clock) (t .digits) ∷ zoneWord (t .zone) ∷ []
+abbrev pub timePairs : TimeForm → List (List ℕ)
+timePairs t = bytes "Basic=Time" ∷ timeWord (t .clock) (t .digits) ∷ zoneWord (t .zone) ∷ []
 
 -- .. and with both.
-abbrev pub dateTimeWords : DateForm → TimeForm → YearSetting → List (List ℕ)
-dateTimeWords f t y =
+abbrev pub dateTimePairs : DateForm → TimeForm → YearSetting → List (List ℕ)
+dateTimePairs f t y =
     bytes "Basic=Date-Time" ∷ dateWord f ∷ yearWord y ∷ timeWord (t .clock) (t .digits) ∷ zoneWord (t .zone) ∷ []
 
 -- One Year more, where it is named.
@@ -75,9 +75,9 @@ namedYears (Years.Signed y) = andNamed (y .negative) negative (andNamed (y .five
 
 -- The pairs of each list of a type.
 abbrev pub listsFor : Parts → List (List (List ℕ))
-listsFor (Parts.Date d) = map (dateWords (d .form)) (namedYears (d .years))
-listsFor (Parts.Time t) = timeWords (t .form) ∷ []
-listsFor (Parts.DateTime d t) = map (dateTimeWords (d .form) (t .form)) (namedYears (d .years))
+listsFor (Parts.Date d) = map (datePairs (d .form)) (namedYears (d .years))
+listsFor (Parts.Time t) = timePairs (t .form) ∷ []
+listsFor (Parts.DateTime d t) = map (dateTimePairs (d .form) (t .form)) (namedYears (d .years))
 
 -- Pieces with the octet c between them.
 unfoldable pub joinWith : ℕ → List (List ℕ) → List ℕ

@@ -4,7 +4,7 @@ ghost use Prim.Native.Nat.{_+_, _^_, _≤_, _<_};
 ghost use lib.ListN.{length};
 ghost use Rattle.fields.specs.Fields.{width as widthOf};
 ghost use Rattle.fields.specs.Readings.{run, readBits, aRanged, aFree};
-ghost use Rattle.unpacking.specs.Steps.{numberAt, rest, seen, seenInteger, integerOf, signedOf, below, numberOf, place, stepBelow, integerPlace};
+ghost use Rattle.unpacking.specs.Steps.{numberAt, rest, seen, seenInteger, integerOf, signedOf, below, numberRead, place, stepBelow, integerPlace};
 use answers::Bits;
 use answers::Octets;
 
@@ -72,7 +72,7 @@ fn field(octets: &[u8], at: Bits, width: Bits) -> Step
     requires { ⌜ at .count ≤ 200 ⌝ }
     requires { ⌜ (1 ≤ width .count) × (width .count ≤ 32) ⌝ }
     ensures { λ r. ⌜ seen (now (octets .entry)) r ≡ readBits (width .count) (rest (now (octets .entry)) at) ⌝ }
-    ensures { λ r. ⌜ (numberOf r < 2 ^ width .count) × (place r ≤ at .count + width .count) ⌝ }
+    ensures { λ r. ⌜ (numberRead r < 2 ^ width .count) × (place r ≤ at .count + width .count) ⌝ }
 {
     let end = Bits {
         count: at.count + width.count,
@@ -97,7 +97,7 @@ pub(crate) fn ranged(octets: &[u8], at: Bits, width: Bits, range: u32) -> Step
     requires { ⌜ (1 ≤ width .count) × (width .count ≤ 32) ⌝ }
     requires { ⌜ width .count ≡ widthOf range ⌝ }
     ensures { λ r. ⌜ seen (now (octets .entry)) r ≡ run (aRanged range) (rest (now (octets .entry)) at) ⌝ }
-    ensures { λ r. ⌜ (numberOf r ≤ range) × (place r ≤ at .count + width .count) ⌝ }
+    ensures { λ r. ⌜ (numberRead r ≤ range) × (place r ≤ at .count + width .count) ⌝ }
 {
     let Step::Got(number, next) = field(octets, at, width) else {
         return Step::Nothing;

@@ -104,7 +104,8 @@ other-fails false f = refl
 -- ---- the number and its cause
 
 module _ {F R A : Type 0} (K : Kind Ty F R A) (d : Direction) (settings : List ℕ) (limits : Limits) (input room : List ℕ) (answer : Answer)
-    (x : answer ≡ underType (typeOf limits settings) λ t. coded K d t input) (f : (t : Ty) → typeOf limits settings ≡ TypeRead.«Type» t → K .wellFormed t ≡ true) where
+    (x : answer ≡ underType (typeOf limits settings) λ t. coded K d t input)
+    (f : (t : Ty) → typeOf limits settings ≡ TypeRead.«Type» t → K .wellFormed t ≡ true) where
   abbrev Why : ℕ → Type 0
   Why n = Cause K d settings limits input room n
 

@@ -42,7 +42,8 @@ module _ (result room : List ℕ) (bits : Bits) where
         let q : bits ≡ outcomeOf (done result bits) room .bits = cc in q,
       )
 
-refuses : (answer : Answer) (why : Refusal) (room : List ℕ) → outcomeOf answer room ≡ refusal why → roomOf answer room ≡ room → Refused answer room (numberOf why)
+refuses : (answer : Answer) (why : Refusal) (room : List ℕ) → outcomeOf answer room ≡ refusal why → roomOf answer room ≡ room
+    → Refused answer room (numberOf why)
 refuses answer why room o r = record {
   number-is = ap (λ (p : Outcome). p .number) o;
   length-is = ap (λ (p : Outcome). p .length .count) o;
@@ -85,7 +86,8 @@ module _ {T F R A : Type 0} (K : Kind T F R A) (L : Lawful K) {S : Type 0} (rend
   held-by : (t : T) (v : A) → Holds K t v → holds K t v ≡ true
   held-by t v h = rw (h .real, h .inside)
 
-  module _ (t : T) (f : K .wellFormed t ≡ true) (write read : List ℕ → Answer) (x : (l : List ℕ) → write l ≡ encoded K t l) (y : (l : List ℕ) → read l ≡ decoded K t l) where
+  module _ (t : T) (f : K .wellFormed t ≡ true) (write read : List ℕ → Answer) (x : (l : List ℕ) → write l ≡ encoded K t l)
+      (y : (l : List ℕ) → read l ≡ decoded K t l) where
     pub written : (v : A) → holds K t v ≡ true → (s : S) → write (render s v) ≡ done (K .encoding (K .row t) v) (K .count (K .row t) v)
     written v h s = x (render s v) ∙ Coding.encoded-own K t (render s v) v (held t v f h) (N .text-read t v (held t v f h) s)
 

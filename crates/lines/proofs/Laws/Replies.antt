@@ -15,7 +15,7 @@ use Rattle.answers.specs.Outcomes.{Answer, done, refused, outcomeOf, roomOf}
 use Rattle.lists.specs.Lists.{spanTo}
 use Rattle.lists.specs.Octets.{bytes}
 use Rattle.printing.specs.Stores.{StoredText}
-use Rattle.lines.specs.Lines.{longestLine, unasked, shown, worked, cutAgain, replyOf}
+use Rattle.lines.specs.Lines.{longestLine, unasked, answerShown, worked, cutAgain, replyOf}
 use Rattle.lines.specs.Rooms.{replyCapacity, replyLength, roomWith}
 use Rattle.lines.specs.Steps.{replyTo}
 use Rattle.answers.proofs.Laws.Outcomes.{Told, given, withheld, told, number-range, enough, none}
@@ -56,10 +56,10 @@ length-most answer room e = rw e (go (told answer room)) where
 abbrev replyOn : (List ℕ → List ℕ) → Outcome → List ℕ → List ℕ
 replyOn show outcome left = replyTo show (outcome .number) (outcome .length .count) left
 
--- An answer whose result has its place in the buffer is shown.
+-- An answer whose result has its place in the buffer is answerShown.
 reply-shown : (show : List ℕ → List ℕ) (answer : Answer) (buffer : List ℕ) →
     ((result : List ℕ) (bits : Bits) → answer ≡ done result bits → length result ≤ length buffer) →
-    replyOn show (outcomeOf answer buffer) (roomOf answer buffer) ≡ shown show answer
+    replyOn show (outcomeOf answer buffer) (roomOf answer buffer) ≡ answerShown show answer
 reply-shown show (refused why) buffer most =
     rw (none why buffer .0) (reply-refused show _ _ _ (λ z. omega (arith, number-range why)))
 reply-shown show (done result bits) buffer most =
@@ -71,7 +71,7 @@ reply-shown show (done result bits) buffer most =
 pub answer-put : (show : List ℕ → List ℕ) (answer : Answer) (buffer : List ℕ) {left room m : List ℕ} {outcome : Outcome} {r : ℕ} →
     ((result : List ℕ) (bits : Bits) → answer ≡ done result bits → length result ≤ length buffer) →
     outcome ≡ outcomeOf answer buffer → left ≡ roomOf answer buffer →
-    StoredText room m 0 (replyTo show (outcome .number) (outcome .length .count) left) r → StoredText room m 0 (shown show answer) r
+    StoredText room m 0 (replyTo show (outcome .number) (outcome .length .count) left) r → StoredText room m 0 (answerShown show answer) r
 answer-put show answer buffer most e f p = rw (← reply-shown show answer buffer most, ← e, ← f) p
 
 -- ---- the semicolons

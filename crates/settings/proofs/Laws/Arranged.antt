@@ -18,24 +18,24 @@ use Rattle.texts.specs.declared.forms.ClockForm.{ClockForm}
 use Rattle.texts.specs.declared.forms.TimeForm.{TimeForm}
 use Rattle.texts.specs.declared.forms.ZoneForm.{ZoneForm}
 use Rattle.types.specs.Numbers.{dateNumber, zoneNumber}
-use Rattle.settings.specs.Written.{YearSetting, dateWord, yearWord, timeWord, zoneWord, dateWords, timeWords, dateTimeWords}
+use Rattle.settings.specs.Written.{YearSetting, dateWord, yearWord, timeWord, zoneWord, datePairs, timePairs, dateTimePairs}
 use Rattle.settings.proofs.Laws.Written.{yearNumber, timeCode, dateList, timeList, dateTimeList}
-use Rattle.settings.proofs.Laws.Words.{Word, basic-date, basic-time, basic-date-time, date, year, time, zone, word-spelled, pairs-read}
+use Rattle.settings.proofs.Laws.Words.{SettingWord, basic-date, basic-time, basic-date-time, date, year, time, zone, setting-spelled, pairs-read}
 
 -- The pieces of a list and its settings: those of a date, ..
 pub data ListOf (ws : List (List ℕ)) (s : Settings) : Type 0 where
-  a-date : (f : DateForm) (y : YearSetting) → List·Permᴰ ws (dateWords f y) → s ≡ dateList f y → ListOf ws s
+  a-date : (f : DateForm) (y : YearSetting) → List·Permᴰ ws (datePairs f y) → s ≡ dateList f y → ListOf ws s
   -- .. of a time, ..
-  a-time : (t : TimeForm) → t .digits ≤ 9 → List·Permᴰ ws (timeWords t) → s ≡ timeList t → ListOf ws s
+  a-time : (t : TimeForm) → t .digits ≤ 9 → List·Permᴰ ws (timePairs t) → s ≡ timeList t → ListOf ws s
   -- .. or of both.
-  a-date-time : (f : DateForm) (t : TimeForm) (y : YearSetting) → t .digits ≤ 9 → List·Permᴰ ws (dateTimeWords f t y) → s ≡ dateTimeList f t y → ListOf ws s
+  a-date-time : (f : DateForm) (t : TimeForm) (y : YearSetting) → t .digits ≤ 9 → List·Permᴰ ws (dateTimePairs f t y) → s ≡ dateTimeList f t y → ListOf ws s
 
 -- ---- the words of numbers, from the property k on
 
 data Shown : ℕ → List ℕ → List (List ℕ) → Type 0 where
   end : (k : ℕ) → Shown k [] []
   lacks : {k : ℕ} {ns : List ℕ} {ws : List (List ℕ)} → Shown (suc k) ns ws → Shown k (0 ∷ ns) ws
-  has : {k n : ℕ} {w : List ℕ} {ns : List ℕ} {ws : List (List ℕ)} → 0 < n → Word w (pair k n) → Shown (suc k) ns ws → Shown k (n ∷ ns) (w ∷ ws)
+  has : {k n : ℕ} {w : List ℕ} {ns : List ℕ} {ws : List (List ℕ)} → 0 < n → SettingWord w (pair k n) → Shown (suc k) ns ws → Shown k (n ∷ ns) (w ∷ ws)
 
 -- One setting more, where there was none.
 record More (k : ℕ) (ns : List ℕ) (us : List (List ℕ)) : Type 0 where
@@ -43,12 +43,12 @@ record More (k : ℕ) (ns : List ℕ) (us : List (List ℕ)) : Type 0 where
   shown : Shown k ns words
   perm : List·Permᴰ us words
 
-put : (p k : ℕ) (ns : List ℕ) (us : List (List ℕ)) (w : List ℕ) (n q : ℕ) → q ≡ k + p → 0 < n → p < length ns → getD ns p 0 ≡ 0 → Word w (pair q n)
+put : (p k : ℕ) (ns : List ℕ) (us : List (List ℕ)) (w : List ℕ) (n q : ℕ) → q ≡ k + p → 0 < n → p < length ns → getD ns p 0 ≡ 0 → SettingWord w (pair q n)
     → Shown k ns us → More k (set ns p n) (w ∷ us)
 put p k ns us w n q e h l g x (end j) = absurd (omega arith)
 put zero k ns us w n q e h l g x (lacks {ns = ms} {ws = vs} r) =
     let z : q ≡ k = omega arith in
-    record { words = w ∷ us; shown = has h (subst (λ (i : ℕ). Word w (pair i n)) z x) r; perm = Permᴰ·refl (w ∷ us) }
+    record { words = w ∷ us; shown = has h (subst (λ (i : ℕ). SettingWord w (pair i n)) z x) r; perm = Permᴰ·refl (w ∷ us) }
 put zero k ns us w n q e h l g x (has i y r) = absurd (omega arith)
 put (suc p) k ns us w n q e h l g x (lacks {ns = ms} {ws = vs} r) =
     let m = put p (suc k) ms vs w n q (omega arith) h (omega arith) g x r in
@@ -82,7 +82,7 @@ pairs-shown s [] us l r h = record { words = us; shown = r; perm = Permᴰ·refl
 pairs-shown s (w ∷ ws) us l r h =
     let a = added s (pairOf w) (pairs-read (addPair s (pairOf w)) ws h) in
     let five = five-properties w in
-    let m = put (pairOf w .property) 0 (s .numbers) us w (pairOf w .setting) (pairOf w .property) (omega arith) (a .some) (omega arith) (a .fresh) (word-spelled w (a .some)) r in
+    let m = put (pairOf w .property) 0 (s .numbers) us w (pairOf w .setting) (pairOf w .property) (omega arith) (a .some) (omega arith) (a .fresh) (setting-spelled w (a .some)) r in
     let k : length (addPair s (pairOf w) .numbers) ≡ 5 = ap length (a .numbers-are) ∙ length-set (s .numbers) (pairOf w .property) (pairOf w .setting) ∙ l in
     let i = pairs-shown (addPair s (pairOf w)) ws (m .words) k (subst (λ (ns : List ℕ). Shown 0 ns (m .words)) (sym (a .numbers-are)) (m .shown)) h in
     record {
@@ -107,7 +107,7 @@ data BasicIs : List ℕ → ℕ → Type 0 where
   two : BasicIs (bytes "Basic=Time") 2
   three : BasicIs (bytes "Basic=Date-Time") 3
 
-basic-is : (w : List ℕ) (q : Pair) → Word w q → q .property ≡ 0 → BasicIs w (q .setting)
+basic-is : (w : List ℕ) (q : Pair) → SettingWord w q → q .property ≡ 0 → BasicIs w (q .setting)
 basic-is w q basic-date e = one
 basic-is w q basic-time e = two
 basic-is w q basic-date-time e = three
@@ -119,7 +119,7 @@ basic-is w q (zone z) e = absurd (omega arith)
 data DateIs : List ℕ → ℕ → Type 0 where
   date-of : (f : DateForm) → DateIs (dateWord f) (dateNumber f)
 
-date-is : (w : List ℕ) (q : Pair) → Word w q → q .property ≡ 1 → DateIs w (q .setting)
+date-is : (w : List ℕ) (q : Pair) → SettingWord w q → q .property ≡ 1 → DateIs w (q .setting)
 date-is w q basic-date e = absurd (omega arith)
 date-is w q basic-time e = absurd (omega arith)
 date-is w q basic-date-time e = absurd (omega arith)
@@ -131,7 +131,7 @@ date-is w q (zone z) e = absurd (omega arith)
 data YearIs : List ℕ → ℕ → Type 0 where
   year-of : (y : YearSetting) → YearIs (yearWord y) (yearNumber y)
 
-year-is : (w : List ℕ) (q : Pair) → Word w q → q .property ≡ 2 → YearIs w (q .setting)
+year-is : (w : List ℕ) (q : Pair) → SettingWord w q → q .property ≡ 2 → YearIs w (q .setting)
 year-is w q basic-date e = absurd (omega arith)
 year-is w q basic-time e = absurd (omega arith)
 year-is w q basic-date-time e = absurd (omega arith)
@@ -143,7 +143,7 @@ year-is w q (zone z) e = absurd (omega arith)
 data TimeIs : List ℕ → ℕ → Type 0 where
   time-of : (c : ClockForm) (n : ℕ) → n ≤ 9 → TimeIs (timeWord c n) (timeCode c n)
 
-time-is : (w : List ℕ) (q : Pair) → Word w q → q .property ≡ 3 → TimeIs w (q .setting)
+time-is : (w : List ℕ) (q : Pair) → SettingWord w q → q .property ≡ 3 → TimeIs w (q .setting)
 time-is w q basic-date e = absurd (omega arith)
 time-is w q basic-time e = absurd (omega arith)
 time-is w q basic-date-time e = absurd (omega arith)
@@ -155,7 +155,7 @@ time-is w q (zone z) e = absurd (omega arith)
 data ZoneIs : List ℕ → ℕ → Type 0 where
   zone-of : (z : ZoneForm) → ZoneIs (zoneWord z) (zoneNumber z)
 
-zone-is : (w : List ℕ) (q : Pair) → Word w q → q .property ≡ 4 → ZoneIs w (q .setting)
+zone-is : (w : List ℕ) (q : Pair) → SettingWord w q → q .property ≡ 4 → ZoneIs w (q .setting)
 zone-is w q basic-date e = absurd (omega arith)
 zone-is w q basic-time e = absurd (omega arith)
 zone-is w q basic-date-time e = absurd (omega arith)
@@ -180,7 +180,7 @@ not-there n h e = let z : n ≡ 0 = eqb-true n 0 e in omega arith
 
 -- The first number's word, where it is to be there, ..
 needs : (k n : ℕ) (ns : List ℕ) (ws : List (List ℕ)) → presentIf true n ≡ true → Shown k (n ∷ ns) ws
-    → (w : List ℕ) × (vs : List (List ℕ)) × Word w (pair k n) × (ws ≡ w ∷ vs) × Shown (suc k) ns vs
+    → (w : List ℕ) × (vs : List (List ℕ)) × SettingWord w (pair k n) × (ws ≡ w ∷ vs) × Shown (suc k) ns vs
 needs k n ns ws p (lacks x) = absurd (false≢true p)
 needs k n ns ws p (has {w = w} {ws = vs} i u x) = (w, vs, u, refl, x)
 

@@ -9,7 +9,7 @@ use borrow.Author.Tests.{leb-true}
 use Rattle.lists.specs.Octets.{bytes, eqList}
 use Rattle.types.specs.Types.{listed, DATE, TIME-OF-DAY, DATE-TIME, everyYear, hasDate, hasTime, placed, restricted, limitedTo, limitsOf, someYear, fewDigits, wellParts, wellFormed}
 use Rattle.settings.specs.TypeTexts.{allOf, joined, typeOf}
-use Rattle.settings.specs.Written.{YearSetting, basic, dateWords, timeWords, dateTimeWords, namedYears, listsFor, joinWith, typeText, Arranged, end, more}
+use Rattle.settings.specs.Written.{YearSetting, basic, datePairs, timePairs, dateTimePairs, namedYears, listsFor, joinWith, typeText, Arranged, end, more}
 use Rattle.texts.specs.declared.forms.DateForm.{DateForm}
 use Rattle.texts.specs.declared.forms.TimeForm.{TimeForm}
 use Rattle.types.specs.declared.types.TimeType.{TimeType}
@@ -22,22 +22,22 @@ use Rattle.lists.specs.declared.lists.Settings.{Settings}
 use Rattle.settings.proofs.Laws.Written.{dateList, timeList, dateTimeList, date-list, time-list, date-time-list, basic-words, date-is-word, year-is-word, zone-is-word, time-is-word, ListText, list-text, text-read, some-named, date-joined, time-joined, date-time-joined}
 
 -- Each list of a type, its pairs in any order, is read.
-date-text : (f : DateForm) (y : YearSetting) (ws : List (List ℕ)) → List·Permᴰ ws (dateWords f y) → ListText ws (dateList f y)
+date-text : (f : DateForm) (y : YearSetting) (ws : List (List ℕ)) → List·Permᴰ ws (datePairs f y) → ListText ws (dateList f y)
 unfolding allOf
-date-text f y = list-text (dateWords f y) (dateList f y) (omega arith) (rw (basic-words .0, date-is-word f, year-is-word y)) (date-list f y)
+date-text f y = list-text (datePairs f y) (dateList f y) (omega arith) (rw (basic-words .0, date-is-word f, year-is-word y)) (date-list f y)
 
-time-text : (t : TimeForm) → t .digits ≤ 9 → (ws : List (List ℕ)) → List·Permᴰ ws (timeWords t) → ListText ws (timeList t)
+time-text : (t : TimeForm) → t .digits ≤ 9 → (ws : List (List ℕ)) → List·Permᴰ ws (timePairs t) → ListText ws (timeList t)
 unfolding allOf
 time-text t k =
-    list-text (timeWords t) (timeList t) (omega arith)
+    list-text (timePairs t) (timeList t) (omega arith)
     (rw (basic-words .1, time-is-word (t .clock) (t .digits) k, zone-is-word (t .zone)))
     (time-list t k)
 
 date-time-text : (f : DateForm) (t : TimeForm) → t .digits ≤ 9 → (y : YearSetting) (ws : List (List ℕ)) →
-    List·Permᴰ ws (dateTimeWords f t y) → ListText ws (dateTimeList f t y)
+    List·Permᴰ ws (dateTimePairs f t y) → ListText ws (dateTimeList f t y)
 unfolding allOf
 date-time-text f t k y =
-    list-text (dateTimeWords f t y) (dateTimeList f t y) (omega arith)
+    list-text (dateTimePairs f t y) (dateTimeList f t y) (omega arith)
     (rw (basic-words .2, date-is-word f, year-is-word y, time-is-word (t .clock) (t .digits) k, zone-is-word (t .zone)))
     (date-time-list f t k y)
 
@@ -60,7 +60,7 @@ pub settings-read : (limits : Limits) (p : Parts) → wellParts p ≡ true → {
 settings-read limits (Parts.Date d) h r =
     some-read _ _ (date-text (d .form)) limits (namedYears (d .years)) (some-named (d .years) h) r ∙ date-joined limits d h
 settings-read limits (Parts.Time t) h r =
-    text-read (λ y. timeWords (t .form)) (λ y. timeList (t .form)) (λ y. time-text (t .form) (few t h)) limits basic [] r ∙ time-joined limits t
+    text-read (λ y. timePairs (t .form)) (λ y. timeList (t .form)) (λ y. time-text (t .form) (few t h)) limits basic [] r ∙ time-joined limits t
 settings-read limits (Parts.DateTime d t) h r =
     let p : (someYear (d .years) ≡ true) × (fewDigits t ≡ true) = and-eq-true-iff _ _ .0 h in
     some-read _ _ (date-time-text (d .form) (t .form) (few t (p .1))) limits (namedYears (d .years)) (some-named (d .years) (p .0)) r

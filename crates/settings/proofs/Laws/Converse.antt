@@ -25,7 +25,7 @@ use Rattle.types.specs.declared.types.TypeRead.{TypeRead}
 use Rattle.types.specs.declared.types.Years.{Years}
 use Rattle.types.specs.declared.types.«Type».{«Type»}
 use Rattle.settings.specs.TypeTexts.{allOf, distinct, equalLists, joined, listsOf, mostLists, oneRow, sameButYear, timeAt, typeOf, usable, yearFamily}
-use Rattle.settings.specs.Written.{YearSetting, basic, proleptic, negative, five, dateWords, dateTimeWords, namedYears, listsFor, joinWith, typeText, Arranged, end, more}
+use Rattle.settings.specs.Written.{YearSetting, basic, proleptic, negative, five, datePairs, dateTimePairs, namedYears, listsFor, joinWith, typeText, Arranged, end, more}
 use Rattle.settings.proofs.Laws.Arranged.{ListOf, a-date, a-time, a-date-time, list-arranged}
 use Rattle.settings.proofs.Laws.Complete.{settings-read}
 use Rattle.settings.proofs.Laws.Joining.{lacks}
@@ -119,14 +119,14 @@ module _ (limits : Limits) (l : List ℕ) (t : «Type») (h : typeOf limits l �
   two-ways p w (inl r) = reads-as limits l t h p w (a ∷ b ∷ []) r x
   two-ways p w (inr r) = reads-swapped limits l t h p w b a r x o
 
-  dates : (f : DateForm) (y z : YearSetting) → Two y z → List·Permᴰ a (dateWords f y) → List·Permᴰ b (dateWords f z) → Reads limits t l
+  dates : (f : DateForm) (y z : YearSetting) → Two y z → List·Permᴰ a (datePairs f y) → List·Permᴰ b (datePairs f z) → Reads limits t l
   dates f y z w p q = go (w .named)
     where
       go : (namedYears (w .years) ≡ y ∷ z ∷ []) ⊎ (namedYears (w .years) ≡ z ∷ y ∷ []) → Reads limits t l
       go (inl n) = two-ways (Parts.Date (unlimitedDate f (w .years))) (w .some) (inl (rw n (more p (more q end))))
       go (inr n) = two-ways (Parts.Date (unlimitedDate f (w .years))) (w .some) (inr (rw n (more q (more p end))))
 
-  date-times : (f : DateForm) (u : TimeForm) (y z : YearSetting) → u .digits ≤ 9 → Two y z → List·Permᴰ a (dateTimeWords f u y) → List·Permᴰ b (dateTimeWords f u z) → Reads limits t l
+  date-times : (f : DateForm) (u : TimeForm) (y z : YearSetting) → u .digits ≤ 9 → Two y z → List·Permᴰ a (dateTimePairs f u y) → List·Permᴰ b (dateTimePairs f u z) → Reads limits t l
   date-times f u y z k w p q = go (w .named)
     where
       well : wellParts (Parts.DateTime (unlimitedDate f (w .years)) (unlimitedTime u)) ≡ true
@@ -140,7 +140,7 @@ module _ (limits : Limits) (l : List ℕ) (t : «Type») (h : typeOf limits l �
   two-lists s u (a-date f y p e) (a-date g z q i) k =
       let m : Alike (dateList f y) (dateList g z) = rw (e, i) at k in
       let n : f ≡ g = by-number dateNumber dateAt date-back f g (m .date-is) in
-      dates g y z (two-years y z (m .family-is) (m .year-not)) (subst (λ (d : DateForm). List·Permᴰ a (dateWords d y)) n p) q
+      dates g y z (two-years y z (m .family-is) (m .year-not)) (subst (λ (d : DateForm). List·Permᴰ a (datePairs d y)) n p) q
   two-lists s u (a-date f y p e) (a-time v j q i) k = let m : Alike (dateList f y) (timeList v) = rw (e, i) at k in let z = m .basic-is in absurd (omega arith)
   two-lists s u (a-date f y p e) (a-date-time g v z j q i) k = let m : Alike (dateList f y) (dateTimeList g v z) = rw (e, i) at k in let z = m .basic-is in absurd (omega arith)
   two-lists s u (a-time v j p e) (a-date g z q i) k = let m : Alike (timeList v) (dateList g z) = rw (e, i) at k in let z = m .basic-is in absurd (omega arith)
@@ -154,8 +154,8 @@ module _ (limits : Limits) (l : List ℕ) (t : «Type») (h : typeOf limits l �
       let d : timeAt (timeCode (v .clock) (v .digits)) (zoneNumber (v .zone)) ≡ timeAt (timeCode (r .clock) (r .digits)) (zoneNumber (r .zone)) =
       ap (λ (c : ℕ). timeAt c (zoneNumber (v .zone))) (m .time-is) ∙ ap (λ (c : ℕ). timeAt (timeCode (r .clock) (r .digits)) c) (m .zone-is) in
       let o : v ≡ r = sym (time-back v) ∙ d ∙ time-back r in
-      let p₁ : List·Permᴰ a (dateTimeWords g v y) = subst (λ (d : DateForm). List·Permᴰ a (dateTimeWords d v y)) n p in
-      date-times g r y z c (two-years y z (m .family-is) (m .year-not)) (subst (λ (w : TimeForm). List·Permᴰ a (dateTimeWords g w y)) o p₁) q
+      let p₁ : List·Permᴰ a (dateTimePairs g v y) = subst (λ (d : DateForm). List·Permᴰ a (dateTimePairs d v y)) n p in
+      date-times g r y z c (two-years y z (m .family-is) (m .year-not)) (subst (λ (w : TimeForm). List·Permᴰ a (dateTimePairs g w y)) o p₁) q
 
 -- ---- the tests of two lists
 

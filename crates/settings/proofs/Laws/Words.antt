@@ -26,21 +26,21 @@ use Rattle.settings.proofs.Laws.Written.{yearNumber, timeCode}
 -- ---- words
 
 -- The words of the base settings, each with its property and its number.
-pub data Word : List ℕ → Pair → Type 0 where
-  basic-date : Word (bytes "Basic=Date") (pair 0 1)
-  basic-time : Word (bytes "Basic=Time") (pair 0 2)
-  basic-date-time : Word (bytes "Basic=Date-Time") (pair 0 3)
-  date : (f : DateForm) → Word (dateWord f) (pair 1 (dateNumber f))
-  year : (y : YearSetting) → Word (yearWord y) (pair 2 (yearNumber y))
-  time : (c : ClockForm) (n : ℕ) → n ≤ 9 → Word (timeWord c n) (pair 3 (timeCode c n))
-  zone : (z : ZoneForm) → Word (zoneWord z) (pair 4 (zoneNumber z))
+pub data SettingWord : List ℕ → Pair → Type 0 where
+  basic-date : SettingWord (bytes "Basic=Date") (pair 0 1)
+  basic-time : SettingWord (bytes "Basic=Time") (pair 0 2)
+  basic-date-time : SettingWord (bytes "Basic=Date-Time") (pair 0 3)
+  date : (f : DateForm) → SettingWord (dateWord f) (pair 1 (dateNumber f))
+  year : (y : YearSetting) → SettingWord (yearWord y) (pair 2 (yearNumber y))
+  time : (c : ClockForm) (n : ℕ) → n ≤ 9 → SettingWord (timeWord c n) (pair 3 (timeCode c n))
+  zone : (z : ZoneForm) → SettingWord (zoneWord z) (pair 4 (zoneNumber z))
 
 -- The same of a word with a fraction.
-fraction : (c : ClockForm) (n : ℕ) → 1 ≤ n → n ≤ 9 → Word (clockWord c ++ bytes "F" ++ (48 + n) ∷ []) (pair 3 (timeCode c n))
+fraction : (c : ClockForm) (n : ℕ) → 1 ≤ n → n ≤ 9 → SettingWord (clockWord c ++ bytes "F" ++ (48 + n) ∷ []) (pair 3 (timeCode c n))
 fraction c n h k = let w = time c n k in rw (ne-eqb n 0 (λ z. omega arith)) at w
 
 -- The words that there are in lists are these.
-settings-word : (w : List ℕ) (p : Pair) → Spelled w p → Word w p
+settings-word : (w : List ℕ) (p : Pair) → Spelled w p → SettingWord w p
 settings-word w p spelled.basic-date = basic-date
 settings-word w p spelled.basic-time = basic-time
 settings-word w p spelled.basic-date-time = basic-date-time
@@ -65,8 +65,8 @@ settings-word w p zone-Z = zone ZoneForm.Z
 settings-word w p zone-LD = zone ZoneForm.LD
 
 -- A text that is read as a setting is the word of that setting.
-pub word-spelled : (w : List ℕ) → 0 < pairOf w .setting → Word w (pairOf w)
-word-spelled w h = settings-word w (pairOf w) (spelled.word-spelled w h)
+pub setting-spelled : (w : List ℕ) → 0 < pairOf w .setting → SettingWord w (pairOf w)
+setting-spelled w h = settings-word w (pairOf w) (spelled.word-spelled w h)
 
 -- ---- lists
 

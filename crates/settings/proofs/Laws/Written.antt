@@ -13,7 +13,7 @@ use Rattle.types.specs.Types.{unlimitedDate, unlimitedTime, listed, hasDate, ha
 use Rattle.lists.specs.Words.{placeFrom, fractionNumber, pair, pairOf}
 use Rattle.lists.specs.Lists.{settings, noneYet, addPair, addPairs, datedList, timedList, complete, completed, listOf}
 use Rattle.settings.specs.TypeTexts.{listsOf, sameButYear, yearFamily, oneRow, equalLists, allOf, distinct, usable, member, yearsOf, timeAt, listType, joined, typeOf}
-use Rattle.settings.specs.Written.{dateWord, YearSetting, basic, proleptic, negative, five, yearWord, clockWord, timeWord, zoneWord, dateWords, timeWords, dateTimeWords, namedYears, joinWith, typeText, Arranged, end, more}
+use Rattle.settings.specs.Written.{dateWord, YearSetting, basic, proleptic, negative, five, yearWord, clockWord, timeWord, zoneWord, datePairs, timePairs, dateTimePairs, namedYears, joinWith, typeText, Arranged, end, more}
 use Rattle.texts.specs.declared.forms.DateForm.{DateForm}
 use Rattle.texts.specs.declared.forms.ClockForm.{ClockForm}
 use Rattle.texts.specs.declared.forms.ZoneForm.{ZoneForm}
@@ -139,7 +139,7 @@ not-zero : (n : ℕ) → 0 < n → eqb n 0 ≡ false
 not-zero n h = ne-eqb n 0 (λ z. omega arith)
 
 -- The pairs of a list give these settings: of a date, ..
-pub date-list : (f : DateForm) (y : YearSetting) → completed (addPairs (settings noneYet) (dateWords f y)) ≡ dateList f y
+pub date-list : (f : DateForm) (y : YearSetting) → completed (addPairs (settings noneYet) (datePairs f y)) ≡ dateList f y
 unfolding completed complete datedList timedList addPairs addPair
 date-list f y =
     let d = date-setting f in
@@ -147,7 +147,7 @@ date-list f y =
     rw (basic-pairs .0, d .word, v .word, lt-ltb 0 _ (d .some), lt-ltb 0 _ (v .some), not-zero _ (d .some), not-zero _ (v .some))
 
 -- .. of a time, ..
-pub time-list : (t : TimeForm) → t .digits ≤ 9 → completed (addPairs (settings noneYet) (timeWords t)) ≡ timeList t
+pub time-list : (t : TimeForm) → t .digits ≤ 9 → completed (addPairs (settings noneYet) (timePairs t)) ≡ timeList t
 unfolding completed complete datedList timedList addPairs addPair
 time-list t k =
     let s : 0 < timeCode (t .clock) (t .digits) = omega (arith, clock-setting (t .clock) .some) in
@@ -156,7 +156,7 @@ time-list t k =
 
 -- .. and of both.
 pub date-time-list : (f : DateForm) (t : TimeForm) → t .digits ≤ 9 → (y : YearSetting) →
-    completed (addPairs (settings noneYet) (dateTimeWords f t y)) ≡ dateTimeList f t y
+    completed (addPairs (settings noneYet) (dateTimePairs f t y)) ≡ dateTimeList f t y
 unfolding completed complete datedList timedList addPairs addPair
 date-time-list f t k y =
     let d = date-setting f in

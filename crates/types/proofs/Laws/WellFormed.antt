@@ -39,13 +39,13 @@ abbrev hmsWith : Bool → TimeType
 hmsWith h = record { form = record { clock = ClockForm.HMS; digits = 0; zone = ZoneForm.L }; hour24 = h }
 
 -- What settings and names give, whatever the restrictions.
-pub data Given : «Type» → Type 0 where
-  date-list : (d : DateType) → SomeYear (d .years) → Given (listed (Parts.Date d))
-  time-list : (t : TimeType) → t .form .digits ≤ 9 → Given (listed (Parts.Time t))
-  date-time-list : (d : DateType) (t : TimeType) → SomeYear (d .years) → t .form .digits ≤ 9 → Given (listed (Parts.DateTime d t))
-  DATE-named : (w : Window) → Given (record { name = Name.Date; parts = Parts.Date (ymdIn w) })
-  TIME-OF-DAY-named : (h : Bool) → Given (record { name = Name.TimeOfDay; parts = Parts.Time (hmsWith h) })
-  DATE-TIME-named : (w : Window) (h : Bool) → Given (record { name = Name.DateTime; parts = Parts.DateTime (ymdIn w) (hmsWith h) })
+pub data Givable : «Type» → Type 0 where
+  date-list : (d : DateType) → SomeYear (d .years) → Givable (listed (Parts.Date d))
+  time-list : (t : TimeType) → t .form .digits ≤ 9 → Givable (listed (Parts.Time t))
+  date-time-list : (d : DateType) (t : TimeType) → SomeYear (d .years) → t .form .digits ≤ 9 → Givable (listed (Parts.DateTime d t))
+  DATE-named : (w : Window) → Givable (record { name = Name.Date; parts = Parts.Date (ymdIn w) })
+  TIME-OF-DAY-named : (h : Bool) → Givable (record { name = Name.TimeOfDay; parts = Parts.Time (hmsWith h) })
+  DATE-TIME-named : (w : Window) (h : Bool) → Givable (record { name = Name.DateTime; parts = Parts.DateTime (ymdIn w) (hmsWith h) })
 
 -- ---- what is given is well-formed
 
@@ -55,7 +55,7 @@ year-test y (proleptic z h) = rw h (or-true (z .basic))
 year-test y (negative z h) = rw h
 year-test y (five z h) = rw h (or-true (z .negative))
 
-pub given-well : (t : «Type») → Given t → wellFormed t ≡ true
+pub given-well : (t : «Type») → Givable t → wellFormed t ≡ true
 unfolding wellFormed
 given-well t (date-list d y) = rw (year-test (d .years) y)
 given-well t (time-list u k) = rw (le-leb (u .form .digits) 9 k)
@@ -106,18 +106,18 @@ hms t h =
     let z : t .form .zone ≡ ZoneForm.L = by-number zoneNumber zoneAt zone-back (t .form .zone) ZoneForm.L (eqb-true (zoneNumber (t .form .zone)) 1 (p .1)) in
     λ i. record { form = record { clock = c i; digits = n i; zone = z i }; hour24 = t .hour24 }
 
-given-as : (name : Name) (p : Parts) → wellParts p ≡ true → ownSettings name p ≡ true → Given (record { name = name; parts = p })
+given-as : (name : Name) (p : Parts) → wellParts p ≡ true → ownSettings name p ≡ true → Givable (record { name = name; parts = p })
 given-as Name.Listed (Parts.Date d) h o = date-list d (one-year (d .years) h)
 given-as Name.Listed (Parts.Time t) h o = time-list t (leb-true (t .form .digits) 9 h)
 given-as Name.Listed (Parts.DateTime d t) h o =
     let p = both (someYear (d .years)) (fewDigits t) h in date-time-list d t (one-year (d .years) (p .0)) (leb-true (t .form .digits) 9 (p .1))
 given-as Name.Date (Parts.Date d) h o =
-    subst (λ (e : DateType). Given (record { name = Name.Date; parts = Parts.Date e })) (sym (ymd d o)) (DATE-named (d .window))
+    subst (λ (e : DateType). Givable (record { name = Name.Date; parts = Parts.Date e })) (sym (ymd d o)) (DATE-named (d .window))
 given-as Name.Date (Parts.Time t) h o = absurd (false≢true o)
 given-as Name.Date (Parts.DateTime d t) h o = absurd (false≢true o)
 given-as Name.TimeOfDay (Parts.Date d) h o = absurd (false≢true o)
 given-as Name.TimeOfDay (Parts.Time t) h o =
-    subst (λ (u : TimeType). Given (record { name = Name.TimeOfDay; parts = Parts.Time u })) (sym (hms t o)) (TIME-OF-DAY-named (t .hour24))
+    subst (λ (u : TimeType). Givable (record { name = Name.TimeOfDay; parts = Parts.Time u })) (sym (hms t o)) (TIME-OF-DAY-named (t .hour24))
 given-as Name.TimeOfDay (Parts.DateTime d t) h o = absurd (false≢true o)
 given-as Name.DateTime (Parts.Date d) h o = absurd (false≢true o)
 given-as Name.DateTime (Parts.Time t) h o = absurd (false≢true o)
@@ -125,7 +125,7 @@ given-as Name.DateTime (Parts.DateTime d t) h o =
     let p = both (basicYmd d) (localHms t) o in
     rw (ymd d (p .0), hms t (p .1)) (DATE-TIME-named (d .window) (t .hour24))
 
-pub well-given : (t : «Type») → wellFormed t ≡ true → Given t
+pub well-given : (t : «Type») → wellFormed t ≡ true → Givable t
 unfolding wellFormed
 well-given t h = let p = both (wellParts (t .parts)) (ownSettings (t .name) (t .parts)) h in given-as (t .name) (t .parts) (p .0) (p .1)
 

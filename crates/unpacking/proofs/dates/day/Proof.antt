@@ -6,7 +6,7 @@ use Rattle.fields.specs.Fields.{binaryDigits, width}
 use Rattle.fields.specs.Readings.{aRanged}
 use Rattle.rows.specs.Readings.{readDay}
 use Rattle.unpacking.proofs.Laws.Steps.{run-give, step}
-use Rattle.unpacking.specs.Steps.{numberOf, place, seen}
+use Rattle.unpacking.specs.Steps.{numberRead, place, seen}
 use Rattle.unpacking.proofs.dates.day.Statement.{statement}
 use Rattle.unpacking.proofs.dates.day.Tie as tie
 
@@ -31,7 +31,7 @@ unfolding readDay
 returns c = (rw (c .before .before .before .enum-told2 .given .1) (sym (step (seen _) (aRanged 12) _ _ (c .before .before .ranged .ensures .0) (c .enum-told3 .given .1))), omega arith)
 
 add-t15 : tie.Need-add-t15
-add-t15 c = omega (arith, ap numberOf (c .before .month .given .1))
+add-t15 c = omega (arith, ap numberRead (c .before .month .given .1))
 
 enum-told-4 : tie.Need-enum-told-4
 enum-told-4 c = search needs
@@ -57,7 +57,7 @@ unfolding readDay
 returns-2 c = (rw (c .before .before .before .enum-told5 .given .1) (sym (step (seen _) (aRanged 366) _ _ (c .before .before .ranged2 .ensures .0) (c .enum-told6 .given .1))), omega arith)
 
 add-t19 : tie.Need-add-t19
-add-t19 c = omega (arith, ap numberOf (c .before .day .given .1))
+add-t19 c = omega (arith, ap numberRead (c .before .day .given .1))
 
 enum-told-7 : tie.Need-enum-told-7
 enum-told-7 c = search needs
@@ -77,7 +77,7 @@ unfolding readDay
 returns-3 c = (rw (c .before .before .before .enum-told7 .given .1) (sym (step (seen _) (aRanged 53) _ _ (c .before .before .ranged3 .ensures .0) (c .enum-told8 .given .1))), omega arith)
 
 add-t23 : tie.Need-add-t23
-add-t23 c = omega (arith, ap numberOf (c .before .week .given .1))
+add-t23 c = omega (arith, ap numberRead (c .before .week .given .1))
 
 enum-told-9 : tie.Need-enum-told-9
 enum-told-9 c = search needs

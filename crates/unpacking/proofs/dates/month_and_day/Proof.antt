@@ -6,7 +6,7 @@ use Rattle.fields.specs.Fields.{binaryDigits, width}
 use Rattle.fields.specs.Readings.{aRanged}
 use Rattle.rows.specs.Readings.{readDay}
 use Rattle.unpacking.proofs.Laws.Steps.{run-give, step}
-use Rattle.unpacking.specs.Steps.{numberOf, place, seen}
+use Rattle.unpacking.specs.Steps.{numberRead, place, seen}
 use Rattle.unpacking.proofs.dates.month_and_day.Statement.{statement}
 use Rattle.unpacking.proofs.dates.month_and_day.Tie as tie
 
@@ -39,10 +39,10 @@ unfolding readDay
 returns-2 c = (sym (step (seen _) (aRanged 12) _ _ (c .before .before .before .before .before .before .ranged .ensures .0) (c .before .before .before .before .month .given .1) ∙ step (seen _) (aRanged 31) _ _ (c .before .before .ranged2 .ensures .0) (c .enum-told2 .given .1)), omega arith)
 
 add-t11 : tie.Need-add-t11
-add-t11 c = omega (arith, ap numberOf (c .before .before .before .before .before .month .given .1))
+add-t11 c = omega (arith, ap numberRead (c .before .before .before .before .before .month .given .1))
 
 add-t12 : tie.Need-add-t12
-add-t12 c = omega (arith, ap numberOf (c .before .day .given .1))
+add-t12 c = omega (arith, ap numberRead (c .before .day .given .1))
 
 returns-3 : tie.Need-returns-3
 unfolding readDay

@@ -3,7 +3,7 @@ use mathlib.Core.Path.{_∙_, ap, sym}
 use native.Mathlib.Omega.{arith}
 use borrow.Author.Needs.{needs}
 use Rattle.unpacking.proofs.Laws.Steps.{run-give, step}
-use Rattle.unpacking.specs.Steps.{nearYear, numberOf, place, seen}
+use Rattle.unpacking.specs.Steps.{nearYear, numberRead, place, seen}
 use Rattle.unpacking.proofs.dates.near_year.Statement.{statement}
 use Rattle.unpacking.proofs.dates.near_year.Tie as tie
 
@@ -21,7 +21,7 @@ unfolding nearYear
 returns c = (sym (step (seen _) _ _ _ (c .before .before .ranged .ensures .0) (c .enum-told .given .1)), omega arith)
 
 add-t9 : tie.Need-add-t9
-add-t9 c = omega (arith, ap numberOf (c .before .number .given .1))
+add-t9 c = omega (arith, ap numberRead (c .before .number .given .1))
 
 returns-2 : tie.Need-returns-2
 unfolding nearYear

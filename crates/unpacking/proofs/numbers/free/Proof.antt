@@ -6,7 +6,7 @@ use native.Mathlib.Omega.{arith}
 use borrow.Author.Needs.{needs}
 use Rattle.answers.specs.declared.counts.Bits.{Bits}
 use Rattle.unpacking.proofs.Laws.Steps.{free-by, free-none, free-some, told}
-use Rattle.unpacking.specs.Steps.{numberOf, place, seen}
+use Rattle.unpacking.specs.Steps.{numberRead, place, seen}
 use Rattle.unpacking.proofs.numbers.free.Statement.{statement}
 use Rattle.unpacking.proofs.numbers.free.Tie as tie
 
@@ -49,7 +49,7 @@ returns-3 c = (rw (free-some _ (told (seen _) (c .before .before .before .before
 signed-requires : tie.Need-signed-requires
 signed-requires c κs =
     let w = width-is (c .before .before .before .before) in
-    (omega arith, rw (ap numberOf (c .before .number .given .1)) at (c .before .before .before .field2 .ensures .1 .0))
+    (omega arith, rw (ap numberRead (c .before .number .given .1)) at (c .before .before .before .field2 .ensures .1 .0))
 
 returns-4 : tie.Need-returns-4
 returns-4 c =

@@ -9,7 +9,7 @@ use Rattle.fields.specs.Readings.{aRanged}
 use Rattle.rows.specs.Readings.{readMinutes}
 use Rattle.unpacking.proofs.Laws.Rows.{minutes-some}
 use Rattle.unpacking.proofs.Laws.Steps.{run-give, step}
-use Rattle.unpacking.specs.Steps.{numberOf, seen}
+use Rattle.unpacking.specs.Steps.{numberRead, seen}
 use Rattle.unpacking.proofs.times.minutes.Statement.{statement}
 use Rattle.unpacking.proofs.times.minutes.Tie as tie
 
@@ -33,7 +33,7 @@ returns-2 c =
     rw (minutes-some _ e) (sym (step (seen _) (aRanged 59) _ _ (c .before .before .ranged .ensures .0) (c .enum-told .given .1)))
 
 add-t9 : tie.Need-add-t9
-add-t9 c = omega (arith, ap numberOf (c .before .number .given .1))
+add-t9 c = omega (arith, ap numberRead (c .before .number .given .1))
 
 returns-3 : tie.Need-returns-3
 returns-3 c =
