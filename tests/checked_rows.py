@@ -50,6 +50,10 @@ TEXTS = ROOT / "crates/values/proofs/Laws/Checked.antt"
 TEXT = re.compile(r'^ +row "([^"]*)" "([^"]*)" (\d) "([^"]*)" ∷', re.M)
 UNDER = re.compile(r'^ +under "([^"]*)" (\w+) "([^"]*)" (\d) "([^"]*)" ∷', re.M)
 
+SETTINGS = ROOT / "crates/values/proofs/Laws/Holding.antt"
+SETTING = re.compile(r"^ +year (\w+) \((\w+ \d+)\) (true|false) ∷", re.M)
+SETTING_NAMES = {"basic": "Basic", "proleptic": "Proleptic", "negative": "Negative", "five": "L5"}
+
 TIMES = ROOT / "crates/values/proofs/Laws/CheckedExistence.antt"
 LOCAL = re.compile(r"^ +time \(local \(Clock\.\w+((?: \d+)+)\) (\d+) (\d+)\) (true|false) ∷", re.M)
 ZONED = re.compile(r"^ +time \((ahead|behind) (\d+) (\d+)\) (true|false) ∷", re.M)
@@ -222,6 +226,13 @@ def check_texts():
         expect(TEXTS, f"{type_text} {limits} {text}", (int(number), canonical.encode()), (judged[0], judged[1] or b""))
 
 
+def check_settings():
+    """Which years are of each Year setting."""
+    (found,) = rows(SETTINGS, SETTING)
+    for name, year, said in found:
+        expect(SETTINGS, f"{name} {year}", said, truth(texts.year_setting(integer(year)) == SETTING_NAMES[name]))
+
+
 def time_exists(fields, digits, fraction, zone, difference=None):
     """Whether a time exists, which no text shows where its fraction has more digits than it says."""
     if digits > 9 or fraction >= 10**digits:
@@ -386,6 +397,7 @@ if __name__ == "__main__":
     check_lists()
     check_types()
     check_texts()
+    check_settings()
     check_times()
     check_fields()
     check_rows()
