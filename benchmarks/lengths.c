@@ -1,5 +1,5 @@
-/* The archive's PER entry points on values of several lengths: nanoseconds a call, the best of several rounds. To compare two
- * archives, link one program with each and run them by turns. docs/BENCHMARKS.md has the command and the figures. */
+/* The archive's entry points on values of several lengths: nanoseconds a call, the best of several rounds. archives.py compares
+ * two archives by it. docs/BENCHMARKS.md has the commands and the figures. */
 #include <stdint.h>
 #include <stdio.h>
 #include <string.h>
@@ -7,7 +7,11 @@
 
 #include "anafzir.h"
 
-enum { CALLS = 20000, ROUNDS = 25, ROOM = 136 };
+#ifndef ROUNDS
+#define ROUNDS 25
+#endif
+
+enum { CALLS = 20000, ROOM = 136 };
 
 static const char *const VALUES[][2] = {
     {"DATE-TIME", "2006-06-13T15:27:46"},
@@ -26,10 +30,10 @@ static double now(void)
     return (double)t.tv_sec * 1e9 + (double)t.tv_nsec;
 }
 
+typedef struct anafzir_outcome entry(const uint8_t *, size_t, struct anafzir_limits, const uint8_t *, size_t, uint8_t *, size_t);
+
 /* The best time of a call of `function` on an input. */
-static double best(struct anafzir_outcome (*function)(const uint8_t *, size_t, struct anafzir_limits, const uint8_t *, size_t,
-                                                      uint8_t *, size_t),
-                   const char *type, const uint8_t *input, size_t length)
+static double best(entry *function, const char *type, const uint8_t *input, size_t length)
 {
     const struct anafzir_limits none = {0};
     uint8_t room[ROOM];
@@ -44,20 +48,27 @@ static double best(struct anafzir_outcome (*function)(const uint8_t *, size_t, s
     return least;
 }
 
-int main(void)
+/* Prints the times of encoding a value and of decoding what it became; whether it became anything. */
+static int timed(const char *name, entry *encode, entry *decode, const char *type, const char *text)
 {
     const struct anafzir_limits none = {0};
+    uint8_t octets[ROOM];
+    struct anafzir_outcome o = encode((const uint8_t *)type, strlen(type), none, (const uint8_t *)text, strlen(text), octets, ROOM);
+    if (o.number != 0)
+        return 0;
+    printf("%s of %2zu octets: encoding %5.1f ns, decoding %5.1f ns   %s\n", name, (size_t)o.length,
+           best(encode, type, (const uint8_t *)text, strlen(text)), best(decode, type, octets, o.length), text);
+    return 1;
+}
+
+int main(void)
+{
     for (size_t k = 0; k < sizeof VALUES / sizeof *VALUES; k++) {
-        const char *type = VALUES[k][0];
-        const uint8_t *text = (const uint8_t *)VALUES[k][1];
-        size_t length = strlen(VALUES[k][1]);
-        uint8_t octets[ROOM];
-        struct anafzir_outcome o =
-            anafzir_per_encode((const uint8_t *)type, strlen(type), none, text, length, octets, sizeof octets);
-        if (o.number != 0)
+        const char *const *value = VALUES[k];
+        if (!timed("PER", anafzir_per_encode, anafzir_per_decode, value[0], value[1]))
             return 1;
-        printf("%2zu octets: encoding %5.1f ns, decoding %5.1f ns   %s\n", (size_t)o.length,
-               best(anafzir_per_encode, type, text, length), best(anafzir_per_decode, type, octets, o.length), VALUES[k][1]);
+        if (!timed("DER", anafzir_der_encode, anafzir_der_decode, value[0], value[1]))
+            return 1;
     }
     return sum == 0;
 }

@@ -12,7 +12,7 @@ use answers::Bits;
 // So many bits, which a number has as its low ones and nothing above them.
 pub struct Group {
     pub number: u64,
-    pub width: u32,
+    pub width: Bits,
 }
 
 // 2 to the power k.
@@ -40,61 +40,66 @@ pub(crate) fn nothing() -> Group
 {
     Group {
         number: 0,
-        width: 0,
+        width: Bits { count: 0 },
     }
 }
 
 // The low bits of a number.
-pub(crate) fn field(width: u32, number: u64) -> Group
-    requires { ⌜ width ≤ 56 ⌝ }
-    ensures { λ r. ⌜ groupBits r ≡ bitsOf width number ⌝ }
-    ensures { λ r. ⌜ Fits width r ⌝ }
+pub(crate) fn field(width: Bits, number: u64) -> Group
+    requires { ⌜ width .count ≤ 56 ⌝ }
+    ensures { λ r. ⌜ groupBits r ≡ bitsOf (width .count) number ⌝ }
+    ensures { λ r. ⌜ Fits (width .count) r ⌝ }
 {
     Group {
-        number: number % power(width),
+        number: number % power(width.count),
         width,
     }
 }
 
 // One group after the other.
 pub(crate) fn join(first: Group, second: Group) -> Group
-    requires { ⌜ first .width + second .width ≤ 56 ⌝ }
-    requires { ⌜ Fits (first .width) first ⌝ }
-    requires { ⌜ Fits (second .width) second ⌝ }
+    requires { ⌜ first .width .count + second .width .count ≤ 56 ⌝ }
+    requires { ⌜ Fits (first .width .count) first ⌝ }
+    requires { ⌜ Fits (second .width .count) second ⌝ }
     ensures { λ r. ⌜ groupBits r ≡ groupBits first ++ groupBits second ⌝ }
-    ensures { λ r. ⌜ Fits (first .width + second .width) r ⌝ }
+    ensures { λ r. ⌜ Fits (first .width .count + second .width .count) r ⌝ }
 {
     Group {
-        number: first.number * power(second.width) + second.number,
-        width: first.width + second.width,
+        number: first.number * power(second.width.count) + second.number,
+        width: Bits {
+            count: first.width.count + second.width.count,
+        },
     }
 }
 
 // How many bits of two's complement an integer takes, in whole octets: n, or -(n + 1).
-fn integer_width(n: u64) -> u32
-    ensures { λ r. ⌜ r ≡ integerBits n ⌝ }
-    ensures { λ r. ⌜ r ≤ 32 ⌝ }
+fn integer_width(n: u64) -> Bits
+    ensures { λ r. ⌜ r .count ≡ integerBits n ⌝ }
+    ensures { λ r. ⌜ r .count ≤ 32 ⌝ }
 {
     if n < 128 {
-        return 8;
+        return Bits { count: 8 };
     }
     if n < 32768 {
-        return 16;
+        return Bits { count: 16 };
     }
     if n < 8388608 {
-        return 24;
+        return Bits { count: 24 };
     }
-    32
+    Bits { count: 32 }
 }
 
 // An octet that counts octets, and those: the low bits of a number.
-fn counted(width: u32, number: u64) -> Group
-    requires { ⌜ width ≤ 32 ⌝ }
-    ensures { λ r. ⌜ groupBits r ≡ bitsOf 8 (octetsFor (record { count = width }) .count) ++ bitsOf width number ⌝ }
+fn counted(width: Bits, number: u64) -> Group
+    requires { ⌜ width .count ≤ 32 ⌝ }
+    ensures { λ r. ⌜ groupBits r ≡ bitsOf 8 (octetsFor width .count) ++ bitsOf (width .count) number ⌝ }
     ensures { λ r. ⌜ Fits 40 r ⌝ }
 {
-    let octets = Bits { count: width }.octets();
-    join(field(8, octets.count as u64), field(width, number))
+    let octets = width.octets();
+    join(
+        field(Bits { count: 8 }, octets.count as u64),
+        field(width, number),
+    )
 }
 
 // The free integer n.
@@ -111,5 +116,5 @@ pub(crate) fn negative(n: u64) -> Group
     ensures { λ r. ⌜ Fits 40 r ⌝ }
 {
     let width = integer_width(n);
-    counted(width, minus(power(width) - 1, n))
+    counted(width, minus(power(width.count) - 1, n))
 }

@@ -1,16 +1,16 @@
-// Reading the fields of octets, from a place on. A place is a count of bits.
+// Reading the fields of octets, from a place on.
 ghost use mathlib.Core.Path.{_≡_};
 ghost use Prim.Native.Nat.{_+_, _^_, _≤_, _<_};
 ghost use lib.ListN.{length};
 ghost use Rattle.fields.specs.Fields.{width as widthOf};
 ghost use Rattle.fields.specs.Readings.{run, readBits, aRanged, aFree};
-ghost use Rattle.fields.specs.Integers.{fromTwos};
-ghost use Rattle.unpacking.specs.Steps.{bitsIn, numberAt, rest, seen, seenInteger, integerOf, below, numberRead, place, stepBelow, integerPlace};
+ghost use Rattle.unpacking.specs.Steps.{numberAt, rest, seen, seenInteger, integerOf, signedOf, below, numberRead, place, stepBelow, integerPlace};
 use answers::Bits;
+use answers::Octets;
 
 // A number with the place after it, or nothing.
 pub enum Step {
-    Got(u32, u32),
+    Got(u32, Bits),
     Nothing,
 }
 
@@ -22,7 +22,7 @@ pub enum Integer {
 
 // An integer with the place after it, or nothing.
 pub enum IntegerStep {
-    Got(Integer, u32),
+    Got(Integer, Bits),
     Nothing,
 }
 
@@ -41,12 +41,14 @@ fn power(exponent: u32) -> u64
     1u64 << exponent
 }
 
-// The number that so many octets make, one or more.
-fn gathered(octets: &[u8], first: usize, count: usize) -> u64
-    requires { ⌜ (1 ≤ count) × (count ≤ 7) ⌝ }
-    requires { ⌜ first + count ≤ length (now octets) ⌝ }
-    ensures { λ r. ⌜ r ≡ numberAt (now (octets .entry)) first count ⌝ }
+// The number that so many octets make, one or more, from a place on.
+fn gathered(octets: &[u8], from: Octets, many: Octets) -> u64
+    requires { ⌜ (1 ≤ many .count) × (many .count ≤ 7) ⌝ }
+    requires { ⌜ from .count + many .count ≤ length (now octets) ⌝ }
+    ensures { λ r. ⌜ r ≡ numberAt (now (octets .entry)) (from .count) (many .count) ⌝ }
 {
+    let first = from.count;
+    let count = many.count;
     let one = wide(octets[first]);
     if count == 1 {
         return one;
@@ -66,32 +68,36 @@ fn gathered(octets: &[u8], first: usize, count: usize) -> u64
 
 // The number of so many bits: the octets that they lie in are gathered, and the bits around them go. The
 // octet of the first bit is the last of those that carry the bits up to it.
-fn field(octets: &[u8], at: u32, width: u32) -> Step
-    requires { ⌜ at ≤ 200 ⌝ }
-    requires { ⌜ (1 ≤ width) × (width ≤ 32) ⌝ }
-    ensures { λ r. ⌜ seen (now (octets .entry)) r ≡ readBits width (rest (now (octets .entry)) at) ⌝ }
-    ensures { λ r. ⌜ (numberRead r < 2 ^ width) × (place r ≤ at + width) ⌝ }
+fn field(octets: &[u8], at: Bits, width: Bits) -> Step
+    requires { ⌜ at .count ≤ 200 ⌝ }
+    requires { ⌜ (1 ≤ width .count) × (width .count ≤ 32) ⌝ }
+    ensures { λ r. ⌜ seen (now (octets .entry)) r ≡ readBits (width .count) (rest (now (octets .entry)) at) ⌝ }
+    ensures { λ r. ⌜ (numberRead r < 2 ^ width .count) × (place r ≤ at .count + width .count) ⌝ }
 {
-    let end = at + width;
-    let with_first = Bits { count: at + 1 }.octets();
-    let with_all = Bits { count: end }.octets();
-    let first = with_first.count - 1;
-    let last = with_all.count;
-    if octets.len() < last {
+    let end = Bits {
+        count: at.count + width.count,
+    };
+    let with_first = Bits {
+        count: at.count + 1,
+    }.octets();
+    let with_all = end.octets();
+    if octets.len() < with_all.count {
         return Step::Nothing;
     }
-    let number = gathered(octets, first, last - first);
-    let after = (8 - end % 8) % 8;
-    Step::Got(((number >> after) % power(width)) as u32, end)
+    let first = with_first.count - 1;
+    let count = with_all.count - first;
+    let number = gathered(octets, Octets { count: first }, Octets { count });
+    let after = end.filling();
+    Step::Got(((number >> after.count) % power(width.count)) as u32, end)
 }
 
 // A number of a range.
-pub(crate) fn ranged(octets: &[u8], at: u32, width: u32, range: u32) -> Step
-    requires { ⌜ at ≤ 200 ⌝ }
-    requires { ⌜ (1 ≤ width) × (width ≤ 32) ⌝ }
-    requires { ⌜ width ≡ widthOf range ⌝ }
+pub(crate) fn ranged(octets: &[u8], at: Bits, width: Bits, range: u32) -> Step
+    requires { ⌜ at .count ≤ 200 ⌝ }
+    requires { ⌜ (1 ≤ width .count) × (width .count ≤ 32) ⌝ }
+    requires { ⌜ width .count ≡ widthOf range ⌝ }
     ensures { λ r. ⌜ seen (now (octets .entry)) r ≡ run (aRanged range) (rest (now (octets .entry)) at) ⌝ }
-    ensures { λ r. ⌜ (numberRead r ≤ range) × (place r ≤ at + width) ⌝ }
+    ensures { λ r. ⌜ (numberRead r ≤ range) × (place r ≤ at .count + width .count) ⌝ }
 {
     let Step::Got(number, next) = field(octets, at, width) else {
         return Step::Nothing;
@@ -102,51 +108,38 @@ pub(crate) fn ranged(octets: &[u8], at: u32, width: u32, range: u32) -> Step
     Step::Nothing
 }
 
-// The bits of so many octets.
-fn width_of(count: u32) -> u32
-    requires { ⌜ (1 ≤ count) × (count ≤ 4) ⌝ }
-    ensures { λ r. ⌜ r ≡ bitsIn count ⌝ }
-{
-    match count {
-        1 => 8,
-        2 => 16,
-        3 => 24,
-        _ => 32,
-    }
-}
-
-// The integer that a number is in two's complement, of so many octets.
-fn signed(number: u32, count: u32) -> Integer
-    requires { ⌜ (1 ≤ count) × (count ≤ 4) ⌝ }
-    requires { ⌜ number < 2 ^ bitsIn count ⌝ }
-    ensures { λ r. ⌜ integerOf r ≡ fromTwos count number ⌝ }
+// The integer that a number of so many bits is in two's complement.
+fn signed(number: u32, width: Bits) -> Integer
+    requires { ⌜ (1 ≤ width .count) × (width .count ≤ 32) ⌝ }
+    requires { ⌜ number < 2 ^ width .count ⌝ }
+    ensures { λ r. ⌜ integerOf r ≡ signedOf (width .count) number ⌝ }
     ensures { λ r. ⌜ 1 ≤ below r ⌝ }
 {
-    let width = width_of(count);
     let number = number as u64;
-    if number < power(width - 1) {
+    if number < power(width.count - 1) {
         return Integer::Natural(number as u32);
     }
-    Integer::Negative((power(width) - number) as u32)
+    Integer::Negative((power(width.count) - number) as u32)
 }
 
-// A free integer: its length in octets, 1 to 4, and those.
-pub(crate) fn free(octets: &[u8], at: u32) -> IntegerStep
-    requires { ⌜ at ≤ 160 ⌝ }
+// A free integer: its length, 1 to 4, each of which has its width, and then its bits.
+pub(crate) fn free(octets: &[u8], at: Bits) -> IntegerStep
+    requires { ⌜ at .count ≤ 160 ⌝ }
     ensures { λ r. ⌜ seenInteger (now (octets .entry)) r ≡ run aFree (rest (now (octets .entry)) at) ⌝ }
-    ensures { λ r. ⌜ (1 ≤ stepBelow r) × (integerPlace r ≤ at + 40) ⌝ }
+    ensures { λ r. ⌜ (1 ≤ stepBelow r) × (integerPlace r ≤ at .count + 40) ⌝ }
 {
-    let Step::Got(count, next) = field(octets, at, 8) else {
+    let Step::Got(length, next) = field(octets, at, Bits { count: 8 }) else {
         return IntegerStep::Nothing;
     };
-    if count < 1 {
-        return IntegerStep::Nothing;
-    }
-    if 4 < count {
-        return IntegerStep::Nothing;
-    }
-    let Step::Got(number, end) = field(octets, next, width_of(count)) else {
+    let width = match length {
+        1 => Bits { count: 8 },
+        2 => Bits { count: 16 },
+        3 => Bits { count: 24 },
+        4 => Bits { count: 32 },
+        _ => return IntegerStep::Nothing,
+    };
+    let Step::Got(number, end) = field(octets, next, width) else {
         return IntegerStep::Nothing;
     };
-    IntegerStep::Got(signed(number, count), end)
+    IntegerStep::Got(signed(number, width), end)
 }

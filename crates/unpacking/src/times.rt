@@ -10,6 +10,7 @@ use crate::numbers::IntegerStep;
 use crate::numbers::Step;
 use crate::numbers::free;
 use crate::numbers::ranged;
+use answers::Bits;
 use texts::Clock;
 use texts::ClockForm;
 use texts::Difference;
@@ -21,39 +22,39 @@ use texts::has_digits;
 
 // A part of a time with the place after it, or nothing.
 pub enum ClockStep {
-    Got(Clock, u32),
+    Got(Clock, Bits),
     Nothing,
 }
 
 pub enum ZoneStep {
-    Got(Zone, u32),
+    Got(Zone, Bits),
     Nothing,
 }
 
 pub enum TimeStep {
-    Got(Time, u32),
+    Got(Time, Bits),
     Nothing,
 }
 
 // What a form has after the hours.
-fn after_hours(octets: &[u8], at: u32, hours: u32, form: ClockForm) -> ClockStep
-    requires { ⌜ at ≤ 150 ⌝ }
+fn after_hours(octets: &[u8], at: Bits, hours: u32, form: ClockForm) -> ClockStep
+    requires { ⌜ at .count ≤ 150 ⌝ }
     ensures { λ r. ⌜ seenClock (now (octets .entry)) r ≡ run (afterHours hours form) (rest (now (octets .entry)) at) ⌝ }
-    ensures { λ r. ⌜ clockPlace r ≤ at + 12 ⌝ }
+    ensures { λ r. ⌜ clockPlace r ≤ at .count + 12 ⌝ }
 {
     match form {
         ClockForm::H => ClockStep::Got(Clock::H(hours), at),
         ClockForm::HM => {
-            let Step::Got(minutes, end) = ranged(octets, at, 6, 60) else {
+            let Step::Got(minutes, end) = ranged(octets, at, Bits { count: 6 }, 60) else {
                 return ClockStep::Nothing;
             };
             ClockStep::Got(Clock::HM(hours, minutes), end)
         }
         ClockForm::HMS => {
-            let Step::Got(minutes, next) = ranged(octets, at, 6, 60) else {
+            let Step::Got(minutes, next) = ranged(octets, at, Bits { count: 6 }, 60) else {
                 return ClockStep::Nothing;
             };
-            let Step::Got(seconds, end) = ranged(octets, next, 6, 61) else {
+            let Step::Got(seconds, end) = ranged(octets, next, Bits { count: 6 }, 61) else {
                 return ClockStep::Nothing;
             };
             ClockStep::Got(Clock::HMS(hours, minutes, seconds), end)
@@ -62,25 +63,25 @@ fn after_hours(octets: &[u8], at: u32, hours: u32, form: ClockForm) -> ClockStep
 }
 
 // Hours, minutes and seconds.
-fn clock(octets: &[u8], at: u32, form: ClockForm) -> ClockStep
-    requires { ⌜ at ≤ 120 ⌝ }
+fn clock(octets: &[u8], at: Bits, form: ClockForm) -> ClockStep
+    requires { ⌜ at .count ≤ 120 ⌝ }
     ensures { λ r. ⌜ seenClock (now (octets .entry)) r ≡ run (readClock form) (rest (now (octets .entry)) at) ⌝ }
-    ensures { λ r. ⌜ clockPlace r ≤ at + 17 ⌝ }
+    ensures { λ r. ⌜ clockPlace r ≤ at .count + 17 ⌝ }
 {
-    let Step::Got(hours, next) = ranged(octets, at, 5, 25) else {
+    let Step::Got(hours, next) = ranged(octets, at, Bits { count: 5 }, 25) else {
         return ClockStep::Nothing;
     };
     after_hours(octets, next, hours, form)
 }
 
 // The number of a fraction after its first bit: of a range, or any other that is not negative.
-fn extended(octets: &[u8], at: u32, bit: u32) -> Step
-    requires { ⌜ at ≤ 150 ⌝ }
+fn extended(octets: &[u8], at: Bits, bit: u32) -> Step
+    requires { ⌜ at .count ≤ 150 ⌝ }
     ensures { λ r. ⌜ seen (now (octets .entry)) r ≡ run (readExtended bit) (rest (now (octets .entry)) at) ⌝ }
-    ensures { λ r. ⌜ place r ≤ at + 40 ⌝ }
+    ensures { λ r. ⌜ place r ≤ at .count + 40 ⌝ }
 {
     if bit == 0 {
-        return ranged(octets, at, 10, 1000);
+        return ranged(octets, at, Bits { count: 10 }, 1000);
     }
     let IntegerStep::Got(integer, next) = free(octets, at) else {
         return Step::Nothing;
@@ -92,15 +93,15 @@ fn extended(octets: &[u8], at: u32, bit: u32) -> Step
 }
 
 // A fraction of so many digits; 0 for none.
-fn fraction(octets: &[u8], at: u32, digits: u32) -> Step
-    requires { ⌜ at ≤ 140 ⌝ }
+fn fraction(octets: &[u8], at: Bits, digits: u32) -> Step
+    requires { ⌜ at .count ≤ 140 ⌝ }
     ensures { λ r. ⌜ seen (now (octets .entry)) r ≡ run (readFraction digits) (rest (now (octets .entry)) at) ⌝ }
-    ensures { λ r. ⌜ place r ≤ at + 41 ⌝ }
+    ensures { λ r. ⌜ place r ≤ at .count + 41 ⌝ }
 {
     if digits == 0 {
         return Step::Got(0, at);
     }
-    let Step::Got(bit, next) = ranged(octets, at, 1, 2) else {
+    let Step::Got(bit, next) = ranged(octets, at, Bits { count: 1 }, 2) else {
         return Step::Nothing;
     };
     let Step::Got(number, end) = extended(octets, next, bit) else {
@@ -113,14 +114,14 @@ fn fraction(octets: &[u8], at: u32, digits: u32) -> Step
 }
 
 // The minutes of a difference, if they are present, else 0.
-fn minutes(octets: &[u8], at: u32, present: u32) -> Step
-    requires { ⌜ at ≤ 200 ⌝ }
+fn minutes(octets: &[u8], at: Bits, present: u32) -> Step
+    requires { ⌜ at .count ≤ 200 ⌝ }
     ensures { λ r. ⌜ seen (now (octets .entry)) r ≡ run (readMinutes present) (rest (now (octets .entry)) at) ⌝ }
 {
     if present == 0 {
         return Step::Got(0, at);
     }
-    let Step::Got(number, next) = ranged(octets, at, 6, 59) else {
+    let Step::Got(number, next) = ranged(octets, at, Bits { count: 6 }, 59) else {
         return Step::Nothing;
     };
     Step::Got(number + 1, next)
@@ -145,14 +146,14 @@ fn difference_at(hours: u32, minutes: u32) -> Difference
 }
 
 // A difference: whether it has minutes, its hours, and its minutes.
-fn difference(octets: &[u8], at: u32) -> ZoneStep
-    requires { ⌜ at ≤ 190 ⌝ }
+fn difference(octets: &[u8], at: Bits) -> ZoneStep
+    requires { ⌜ at .count ≤ 190 ⌝ }
     ensures { λ r. ⌜ seenZone (now (octets .entry)) r ≡ run (readZone ZoneForm.LD) (rest (now (octets .entry)) at) ⌝ }
 {
-    let Step::Got(present, after_present) = ranged(octets, at, 1, 2) else {
+    let Step::Got(present, after_present) = ranged(octets, at, Bits { count: 1 }, 2) else {
         return ZoneStep::Nothing;
     };
-    let Step::Got(hours, after_hours) = ranged(octets, after_present, 5, 32) else {
+    let Step::Got(hours, after_hours) = ranged(octets, after_present, Bits { count: 5 }, 32) else {
         return ZoneStep::Nothing;
     };
     let Step::Got(minutes, end) = minutes(octets, after_hours, present) else {
@@ -162,8 +163,8 @@ fn difference(octets: &[u8], at: u32) -> ZoneStep
 }
 
 // Nothing of a zone but its difference takes bits.
-fn zone(octets: &[u8], at: u32, form: ZoneForm) -> ZoneStep
-    requires { ⌜ at ≤ 190 ⌝ }
+fn zone(octets: &[u8], at: Bits, form: ZoneForm) -> ZoneStep
+    requires { ⌜ at .count ≤ 190 ⌝ }
     ensures { λ r. ⌜ seenZone (now (octets .entry)) r ≡ run (readZone form) (rest (now (octets .entry)) at) ⌝ }
 {
     match form {
@@ -174,8 +175,8 @@ fn zone(octets: &[u8], at: u32, form: ZoneForm) -> ZoneStep
 }
 
 // A time of a form.
-pub(crate) fn time(octets: &[u8], at: u32, form: TimeForm) -> TimeStep
-    requires { ⌜ at ≤ 100 ⌝ }
+pub(crate) fn time(octets: &[u8], at: Bits, form: TimeForm) -> TimeStep
+    requires { ⌜ at .count ≤ 100 ⌝ }
     ensures { λ r. ⌜ seenTime (now (octets .entry)) r ≡ run (readTime form) (rest (now (octets .entry)) at) ⌝ }
 {
     let clock_form = form.clock;

@@ -7,6 +7,7 @@ use crate::dates::DateStep;
 use crate::dates::date;
 use crate::times::TimeStep;
 use crate::times::time;
+use answers::Bits;
 use rows::YearRow;
 use texts::DateForm;
 use texts::Form;
@@ -23,7 +24,7 @@ pub enum ValueRead {
 fn read_date(row: YearRow, form: DateForm, octets: &[u8]) -> ValueRead
     ensures { λ r. ⌜ r ≡ valueIn (readOctets row (Form.Date form) (now (octets .entry))) ⌝ }
 {
-    let DateStep::Got(date, _) = date(octets, 0, row, form) else {
+    let DateStep::Got(date, _) = date(octets, row, form) else {
         return ValueRead::Nothing;
     };
     ValueRead::Value(Value::Date(date))
@@ -33,7 +34,7 @@ fn read_date(row: YearRow, form: DateForm, octets: &[u8]) -> ValueRead
 fn read_time(row: YearRow, form: TimeForm, octets: &[u8]) -> ValueRead
     ensures { λ r. ⌜ r ≡ valueIn (readOctets row (Form.Time form) (now (octets .entry))) ⌝ }
 {
-    let TimeStep::Got(time, _) = time(octets, 0, form) else {
+    let TimeStep::Got(time, _) = time(octets, Bits { count: 0 }, form) else {
         return ValueRead::Nothing;
     };
     ValueRead::Value(Value::Time(time))
@@ -43,7 +44,7 @@ fn read_time(row: YearRow, form: TimeForm, octets: &[u8]) -> ValueRead
 fn read_date_time(row: YearRow, before: DateForm, form: TimeForm, octets: &[u8]) -> ValueRead
     ensures { λ r. ⌜ r ≡ valueIn (readOctets row (Form.DateTime before form) (now (octets .entry))) ⌝ }
 {
-    let DateStep::Got(date, next) = date(octets, 0, row, before) else {
+    let DateStep::Got(date, next) = date(octets, row, before) else {
         return ValueRead::Nothing;
     };
     let TimeStep::Got(time, _) = time(octets, next, form) else {

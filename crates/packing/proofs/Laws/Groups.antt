@@ -12,6 +12,7 @@ use lib.Dec.{ltb}
 use lib.IntN.{ℤ, pos, negsuc}
 use lib.Pow.{pow-add, pow-mono}
 use Rattle.answers.specs.Counts.{octetsFor}
+use Rattle.answers.specs.declared.counts.Bits.{Bits}
 use Rattle.calendar.specs.Years.{distanceOf}
 use Rattle.calendar.specs.declared.years.Distance.{Distance}
 use Rattle.fields.specs.Bits.{BitString, bitsOf}
@@ -58,23 +59,23 @@ module _ (n : ℕ) where
       let k : 32768 ≤ n = omega arith in
       simp (le-ltb n 128 m, le-ltb n 32768 k, le-ltb n 8388608 l)
 
-free-bits : (z : ℤ) (w v : ℕ) → w ≡ 8 * fewest z → v ≡ twos (fewest z) z
-    → bitsOf 8 (octetsFor (record { count = w }) .count) ++ bitsOf w v ≡ fieldBits (Free z)
+free-bits : (z : ℤ) (w : Bits) (v : ℕ) → w .count ≡ 8 * fewest z → v ≡ twos (fewest z) z
+    → bitsOf 8 (octetsFor w .count) ++ bitsOf (w .count) v ≡ fieldBits (Free z)
 unfolding octetsFor fieldBits
 free-bits z w v e f =
     let k : (8 * fewest z + 7) / 8 ≡ fewest z = omega arith in
     ap₂ (λ (m n : ℕ). bitsOf 8 ((m + 7) / 8) ++ bitsOf m n) e f
     ∙ ap (λ (m : ℕ). bitsOf 8 m ++ bitsOf (8 * fewest z) (twos (fewest z) z)) k
 
-pub integer-bits : (n w : ℕ) → w ≡ integerBits n → bitsOf 8 (octetsFor (record { count = w }) .count) ++ bitsOf w n ≡ fieldBits (Free (pos n))
+pub integer-bits : (n : ℕ) (w : Bits) → w .count ≡ integerBits n → bitsOf 8 (octetsFor w .count) ++ bitsOf (w .count) n ≡ fieldBits (Free (pos n))
 unfolding integerBits twos
 integer-bits n w e = free-bits (pos n) w n e refl
 
-pub negative-bits : (n w p v : ℕ) → w ≡ integerBits n → p ≡ 2 ^ w → v ≡ p - 1 - n
-    → bitsOf 8 (octetsFor (record { count = w }) .count) ++ bitsOf w v ≡ fieldBits (Free (negsuc n))
+pub negative-bits : (n : ℕ) (w : Bits) (p v : ℕ) → w .count ≡ integerBits n → p ≡ 2 ^ w .count → v ≡ p - 1 - n
+    → bitsOf 8 (octetsFor w .count) ++ bitsOf (w .count) v ≡ fieldBits (Free (negsuc n))
 unfolding integerBits fewest inOctets twos
 negative-bits n w p v e f g =
-    let k : v ≡ 2 ^ w - suc n = omega arith in
+    let k : v ≡ 2 ^ w .count - suc n = omega arith in
     free-bits (negsuc n) w v e (k ∙ ap (λ (m : ℕ). 2 ^ m - suc n) e)
 
 -- ---- the layouts of one field, two and three

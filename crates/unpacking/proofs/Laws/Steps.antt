@@ -8,13 +8,15 @@ use lib.Dec.{leb, ltb}
 use lib.ListN.{length, length-drop}
 use lib.Seq.{drop-drop}
 use borrow.Author.Tests.{le-leb, lt-leb}
+use Rattle.answers.specs.declared.counts.Bits.{Bits}
 use Rattle.fields.specs.Bits.{BitString, numberIn, unpacked}
 use Rattle.fields.specs.Fields.{width}
-use Rattle.fields.specs.Integers.{fromTwos}
+use Rattle.fields.specs.Integers.{half, fromTwos}
 use Rattle.fields.specs.Readings.{Found, found, nothing, onward, Reading, give, _>>=_, aRanged, aFree, readBits, readRanged, readFree, run}
 use Rattle.fields.proofs.Laws.Bits.{length-unpacked}
+use Rattle.fields.proofs.Laws.Cases.{by-leb}
 use Rattle.fields.proofs.Laws.Readings.{run-bind}
-use Rattle.unpacking.specs.Steps.{rest}
+use Rattle.unpacking.specs.Steps.{rest, signedOf}
 
 -- What a callee's answer says of a reading, once a match has told which answer it is, ..
 pub told : {A B : Type 0} (f : A → B) {r k : A} {m : B} → f r ≡ m → r ≡ k → m ≡ f k
@@ -43,7 +45,7 @@ unfolding run aRanged readRanged
 ranged-by r w s e h =
     given (readRanged r s) ∙ ap (λ m. onward m (λ v s. cond (ltb v r) (found v s) nothing)) (ap (λ (n : ℕ). readBits n s) (sym e) ∙ h)
 
--- .. and a free integer, by what was read of its length.
+-- .. and a free integer, by what was read of its length, ..
 pub free-by : (s : BitString) {m : Found Bool ℕ} → readBits 8 s ≡ m
     → run aFree s ≡ onward m (λ n s.
     cond (leb 1 n) (cond (leb n 4) (onward (readBits (8 * n) s) (λ t s. found (fromTwos n t) s)) nothing) nothing)
@@ -53,18 +55,29 @@ free-by s h =
     ∙ ap (λ m. onward m (λ n s.
     cond (leb 1 n) (cond (leb n 4) (onward (readBits (8 * n) s) (λ t s. found (fromTwos n t) s)) nothing) nothing)) h
 
--- So many bits at a place, where the octets do not end before, and where they do.
-length-rest : (s : List ℕ) (at : ℕ) → length (rest s at) ≡ 8 * length s - at
-length-rest s at = length-drop at (unpacked s) ∙ ap (λ (n : ℕ). n - at) (length-unpacked s)
+-- .. which has a width, or none.
+module _ (s : BitString) {n : ℕ} {t : BitString} (h : readBits 8 s ≡ found n t) where
+  pub free-some : (w : ℕ) → (1 ≤ n) × (n ≤ 4) × (w ≡ 8 * n) → run aFree s ≡ onward (readBits w t) (λ v s. found (signedOf w v) s)
+  unfolding signedOf fromTwos half
+  free-some w k = rw (free-by s h, le-leb 1 n (k .0), le-leb n 4 (k .1), k .2)
 
-module _ (s : List ℕ) (at w : ℕ) where
-  pub bits-there : at + w ≤ 8 * length s → readBits w (rest s at) ≡ found (numberIn w (rest s at)) (rest s (at + w))
+  pub free-none : (1 ≤ n → n ≤ 4 → ⊥) → run aFree s ≡ nothing
+  free-none f = by-leb 1 n
+      (λ l e. by-leb n 4 (λ k d. absurd (f l k)) (λ k d. rw (free-by s h, e, d)))
+      (λ l e. rw (free-by s h, e))
+
+-- So many bits at a place, where the octets do not end before, and where they do.
+length-rest : (s : List ℕ) (at : Bits) → length (rest s at) ≡ 8 * length s - at .count
+length-rest s at = length-drop (at .count) (unpacked s) ∙ ap (λ (n : ℕ). n - at .count) (length-unpacked s)
+
+module _ (s : List ℕ) (at : Bits) (w : ℕ) where
+  pub bits-there : at .count + w ≤ 8 * length s → readBits w (rest s at) ≡ found (numberIn w (rest s at)) (rest s (record { count = at .count + w }))
   unfolding readBits
   bits-there h =
       let l : w ≤ length (rest s at) = omega (arith, length-rest s at) in
       rw (le-leb _ _ l, drop-drop)
 
-  pub bits-short : 8 * length s < at + w → 1 ≤ w → readBits w (rest s at) ≡ nothing
+  pub bits-short : 8 * length s < at .count + w → 1 ≤ w → readBits w (rest s at) ≡ nothing
   unfolding readBits
   bits-short h p =
       let l : length (rest s at) < w = omega (arith, length-rest s at) in

@@ -30,8 +30,8 @@ returns : tie.Need-returns
 unfolding readDay
 returns c = (rw (c .before .before .before .enum-told2 .given .1) (sym (step (seen _) (aRanged 12) _ _ (c .before .before .ranged .ensures .0) (c .enum-told3 .given .1))), omega arith)
 
-add-t14 : tie.Need-add-t14
-add-t14 c = omega (arith, ap numberRead (c .before .month .given .1))
+add-t15 : tie.Need-add-t15
+add-t15 c = omega (arith, ap numberRead (c .before .month .given .1))
 
 enum-told-4 : tie.Need-enum-told-4
 enum-told-4 c = search needs
@@ -56,8 +56,8 @@ returns-2 : tie.Need-returns-2
 unfolding readDay
 returns-2 c = (rw (c .before .before .before .enum-told5 .given .1) (sym (step (seen _) (aRanged 366) _ _ (c .before .before .ranged2 .ensures .0) (c .enum-told6 .given .1))), omega arith)
 
-add-t17 : tie.Need-add-t17
-add-t17 c = omega (arith, ap numberRead (c .before .day .given .1))
+add-t19 : tie.Need-add-t19
+add-t19 c = omega (arith, ap numberRead (c .before .day .given .1))
 
 enum-told-7 : tie.Need-enum-told-7
 enum-told-7 c = search needs
@@ -76,8 +76,8 @@ returns-3 : tie.Need-returns-3
 unfolding readDay
 returns-3 c = (rw (c .before .before .before .enum-told7 .given .1) (sym (step (seen _) (aRanged 53) _ _ (c .before .before .ranged3 .ensures .0) (c .enum-told8 .given .1))), omega arith)
 
-add-t20 : tie.Need-add-t20
-add-t20 c = omega (arith, ap numberRead (c .before .week .given .1))
+add-t23 : tie.Need-add-t23
+add-t23 c = omega (arith, ap numberRead (c .before .week .given .1))
 
 enum-told-9 : tie.Need-enum-told-9
 enum-told-9 c = search needs
@@ -117,7 +117,7 @@ day-spec =
     enum-known-month
     enum-told-3
     returns
-    add-t14
+    add-t15
     enum-told-4
     month-and-day-requires
     enum-told-5
@@ -125,13 +125,13 @@ day-spec =
     enum-known-day
     enum-told-6
     returns-2
-    add-t17
+    add-t19
     enum-told-7
     ranged-requires-3
     enum-known-week
     enum-told-8
     returns-3
-    add-t20
+    add-t23
     enum-told-9
     week-and-weekday-requires
     returns-4

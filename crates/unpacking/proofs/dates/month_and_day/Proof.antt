@@ -38,11 +38,11 @@ returns-2 : tie.Need-returns-2
 unfolding readDay
 returns-2 c = (sym (step (seen _) (aRanged 12) _ _ (c .before .before .before .before .before .before .ranged .ensures .0) (c .before .before .before .before .month .given .1) ∙ step (seen _) (aRanged 31) _ _ (c .before .before .ranged2 .ensures .0) (c .enum-told2 .given .1)), omega arith)
 
-add-t10 : tie.Need-add-t10
-add-t10 c = omega (arith, ap numberRead (c .before .before .before .before .before .month .given .1))
-
 add-t11 : tie.Need-add-t11
-add-t11 c = omega (arith, ap numberRead (c .before .day .given .1))
+add-t11 c = omega (arith, ap numberRead (c .before .before .before .before .before .month .given .1))
+
+add-t12 : tie.Need-add-t12
+add-t12 c = omega (arith, ap numberRead (c .before .day .given .1))
 
 returns-3 : tie.Need-returns-3
 unfolding readDay
@@ -60,6 +60,6 @@ month-and-day-spec =
     enum-known-day
     enum-told-2
     returns-2
-    add-t10
     add-t11
+    add-t12
     returns-3)

@@ -32,8 +32,8 @@ returns-2 c =
     let e : 1 ≤ c .before .before .before .before .before .args .present = omega arith in
     rw (minutes-some _ e) (sym (step (seen _) (aRanged 59) _ _ (c .before .before .ranged .ensures .0) (c .enum-told .given .1)))
 
-add-t8 : tie.Need-add-t8
-add-t8 c = omega (arith, ap numberRead (c .before .number .given .1))
+add-t9 : tie.Need-add-t9
+add-t9 c = omega (arith, ap numberRead (c .before .number .given .1))
 
 returns-3 : tie.Need-returns-3
 returns-3 c =
@@ -49,5 +49,5 @@ minutes-spec =
     enum-known-number
     enum-told
     returns-2
-    add-t8
+    add-t9
     returns-3)
