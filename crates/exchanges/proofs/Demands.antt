@@ -27,7 +27,7 @@ use Rattle.rows.specs.Fields.{yearRowOf}
 use Rattle.rows.specs.Readings.{readOctets}
 use Rattle.rows.proofs.Laws.SameRows.{same-form, same-rows}
 use Rattle.unpacking.specs.Unpacked.{valueIn, valueNumber}
-use Rattle.kinds.specs.Kinds.{holds, readNumber}
+use Rattle.kinds.specs.Kinds.{holds}
 use Rattle.kinds.specs.Lawful.{Holds}
 use Rattle.kinds.proofs.Laws.Coding as Coding
 use Rattle.encodings.specs.Encodings.{Encoding, encodedBy, ofText}
@@ -89,19 +89,15 @@ demand-2-der settings limits t e =
 held : {R : Type 0} (E : Encoding R) (t : Ty) (v : Value) → wellFormed t ≡ true → holds (encodedBy E) t v ≡ true → Holds (encodedBy E) t v
 held E t v f h = let b = both _ _ h in record { formed = f; real = b .0; inside = b .1 }
 
-number-none : (o : Option Value) → readNumber o ≡ 3 → o ≡ none
-number-none (some v) e = absurd (omega arith)
-number-none none e = refl
-
 pub demand-3-per : Demand3InPer
 unfolding perEncode perDecode
 demand-3-per settings₁ limits₁ w e₁ settings₂ limits₂ r e₂ v h s room ok q n =
     let k = read-well-formed limits₁ settings₁ w e₁ in
     let f = same-form w r q n in
-    let o : readNumber (per .readText (formOf r) (textOf v)) ≡ 0 = rw (← f) (ap readNumber (per-lawful .text-own w v (held inPer w v k h))) in (
+    let o : per .readText (formOf r) (textOf v) ≡ some v = rw (← f) (per-lawful .text-own w v (held inPer w v k h)) in (
       o,
       meets-3 per per-lawful render (noted inPer) w r k (read-well-formed limits₂ settings₂ r e₂) (same-rows w r q) v h
-          (λ z. absurd (let c : 0 ≡ 3 = sym o ∙ z in omega arith))
+          (λ z. absurd (let y : _≡_ {A = ℕ} 0 1 = cc in omega arith))
           (perEncode settings₁ limits₁ (render s v)) room
           (written per per-lawful render (noted inPer) w k (perEncode settings₁ limits₁) (perDecode settings₁ limits₁) (λ l. rw e₁) (λ l. rw e₁) v h s) ok
           (perDecode settings₂ limits₂) (λ l. rw e₂),
@@ -113,7 +109,7 @@ demand-3-der settings₁ limits₁ w e₁ settings₂ limits₂ r e₂ v h s roo
     let k = read-well-formed limits₁ settings₁ w e₁ in
     let n : w .name ≡ r .name = one-tag (w .name) (r .name) q in
     meets-3 der der-lawful render (noted inDer) w r k (read-well-formed limits₂ settings₂ r e₂) n v h
-    (λ z. rw (← n) (element-gives w v (held inDer w v k h) (formOf r) ∙ number-none (ofText (readOf (formOf r) (textOf v))) z))
+    (λ z. rw (← n) (element-gives w v (held inDer w v k h) (formOf r) ∙ z))
     (derEncode settings₁ limits₁ (render s v)) room
     (written der der-lawful render (noted inDer) w k (derEncode settings₁ limits₁) (derDecode settings₁ limits₁) (λ l. rw e₁) (λ l. rw e₁) v h s) ok
     (derDecode settings₂ limits₂) (λ l. rw e₂)
@@ -204,9 +200,8 @@ values-told settings limits t q octets room v n = (
     k = read-well-formed limits settings t q
 
 pub limits-told : LimitsTold
-unfolding outcomeOf
-limits-told e settings limits input room n = go (limitsGiven limits) n
-  where
-    go : (r : LimitsRead) → limitsNumber r ≢ 0 → outcomeOf (underLimits r λ l. answerOf e settings l input) room .number ≡ limitsNumber r
-    go (LimitsRead.Limits l) n = absurd (n refl)
-    go LimitsRead.Misplaced n = refl
+unfolding limitsGiven outcomeOf
+limits-told e settings given input room = (
+  λ z. simp (eq-eqb (given .counts) 0 z),
+  λ z. let c = ne-eqb (given .counts) 0 z in (rw c refl, rw c refl),
+)

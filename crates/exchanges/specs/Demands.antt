@@ -25,7 +25,7 @@ use Rattle.fields.specs.Fields.{bitCount, layout}
 use Rattle.rows.specs.Fields.{fieldsOf, yearRowOf}
 use Rattle.rows.specs.Readings.{readOctets}
 use Rattle.unpacking.specs.Unpacked.{valueIn, valueNumber}
-use Rattle.kinds.specs.Kinds.{Kind, holds, readNumber}
+use Rattle.kinds.specs.Kinds.{Kind, holds}
 use Rattle.per.specs.Per.{per}
 use Rattle.der.specs.Der.{der}
 use Rattle.der.specs.Elements.{contentsOf, tagOf}
@@ -155,9 +155,9 @@ pub record Demand3 {T F R A : Type 0} (K : Kind T F R A) (written : Answer) (len
   pub no-room : holds K r v ≡ true → (room : List ℕ) → length room < length (K .textOf v) → Refused (read (sent written lent)) room 7
   -- "Otherwise it refuses, with the number that document 01 gives", whatever the room: 5 where the value's canonical text is of the form of the
   -- reader's type, ..
-  pub refuses-5 : holds K r v ≡ false → readNumber (K .readText (K .form r) (K .textOf v)) ≡ 0 → (room : List ℕ) → Refused (read (sent written lent)) room 5
+  pub refuses-5 : holds K r v ≡ false → (a : A) → K .readText (K .form r) (K .textOf v) ≡ some a → (room : List ℕ) → Refused (read (sent written lent)) room 5
   -- .. and 3 where it isn't
-  pub refuses-3 : readNumber (K .readText (K .form r) (K .textOf v)) ≡ 3 → (room : List ℕ) → Refused (read (sent written lent)) room 3
+  pub refuses-3 : K .readText (K .form r) (K .textOf v) ≡ none → (room : List ℕ) → Refused (read (sent written lent)) room 3
 
 -- "Take any two types, one for a writer and one for a reader, whatever years and limits each sets, and any value that the writer's type holds.": in
 -- any spelling, in any room that was enough. "In PER, let both types select the same rows of the standard's Table 2, for the date and for the time,
@@ -167,7 +167,7 @@ Demand3InPer = (settings₁ : List ℕ) (limits₁ : Limits) (w : Ty) → typeOf
     → (settings₂ : List ℕ) (limits₂ : Limits) (r : Ty) → typeOf limits₂ settings₂ ≡ TypeRead.«Type» r
     → (v : Value) → holds per w v ≡ true → (s : Spelling) (room : List ℕ) → outcomeOf (perEncode settings₁ limits₁ (render s v)) room .number ≡ 0
     → sameRows w r ≡ true → fractionDigits w ≡ fractionDigits r
-    → (readNumber (per .readText (formOf r) (textOf v)) ≡ 0) × Demand3 per (perEncode settings₁ limits₁ (render s v)) room (perDecode settings₂ limits₂) r v
+    → (per .readText (formOf r) (textOf v) ≡ some v) × Demand3 per (perEncode settings₁ limits₁ (render s v)) room (perDecode settings₂ limits₂) r v
 
 -- "In DER the same is true of any two types with one tag."
 abbrev pub Demand3InDer : Type 0
@@ -264,7 +264,9 @@ ValuesTold = (settings : List ℕ) (limits : Limits) (t : Ty) → typeOf limits 
     → (readAs per decodes t octets ≡ some v → outcomeOf (perDecode settings limits octets) room .number ≡ judgementNumber (judged t v))
     × (readAs der decodes t octets ≡ some v → outcomeOf (derDecode settings limits octets) room .number ≡ judgementNumber (judged t v))
 
--- From C, of the limits that are given.
+-- From C, of the limits that are given: 1 where a count is among them, which has no place, and 0 for all others.
 abbrev pub LimitsTold : Type 0
-LimitsTold = (e : Entry) (settings : List ℕ) (limits : GivenLimits) (input room : List ℕ) → limitsNumber (limitsGiven limits) ≢ 0
-    → outcomeOf (answerInC e settings limits input) room .number ≡ limitsNumber (limitsGiven limits)
+LimitsTold = (e : Entry) (settings : List ℕ) (given : GivenLimits) (input room : List ℕ)
+    → (given .counts ≡ 0 → limitsNumber (limitsGiven given) ≡ 0)
+    × (given .counts ≢ 0 → (limitsNumber (limitsGiven given) ≡ 1)
+    × (outcomeOf (answerInC e settings given input) room .number ≡ limitsNumber (limitsGiven given)))

@@ -2,10 +2,8 @@
 use Prim.Native.Nat.{ℕ}
 use mathlib.Core.Bool.{Bool, _&&_}
 use mathlib.Core.List.{List}
-use mathlib.Core.Option.{Option, some, none}
-use Rattle.answers.specs.Refusals.{numberOf}
+use mathlib.Core.Option.{Option}
 use Rattle.answers.specs.declared.counts.Bits.{Bits}
-use Rattle.answers.specs.declared.refusals.Refusal.{Refusal}
 
 -- Types T have forms F and rows R; a type's values are among A, its texts are of its form, and they are encoded by its row.
 pub record Kind (T F R A : Type 0) : Type 0 where
@@ -27,8 +25,3 @@ pub record Kind (T F R A : Type 0) : Type 0 where
 -- "A type holds a value, one that exists by the rules below, when .."
 abbrev pub holds : {T F R A : Type 0} → Kind T F R A → T → A → Bool
 holds K t a = K .exists a && K .inType t a
-
--- The number of what a text or octets give: 0 for a value, and 3 where there is none.
-abbrev pub readNumber : {A : Type 0} → Option A → ℕ
-readNumber (some a) = 0
-readNumber none = numberOf Refusal.Form

@@ -29,9 +29,9 @@ use Rattle.values.specs.declared.admission.Admission.{Admission}
 use Rattle.values.specs.declared.admission.Judgement.{Judgement}
 use Rattle.values.proofs.Laws.Existing.{exists-digits, held-fits, held-read}
 use Rattle.values.proofs.Laws.Holding.{form-same, held, holds-both, in-type, same-form}
-use mathlib.Core.Option.{some}
+use mathlib.Core.Option.{none, some}
 use Rattle.kinds.specs.Coding.{encoded, decoded, judgedText, judgedAs}
-use Rattle.kinds.specs.Kinds.{holds, readNumber}
+use Rattle.kinds.specs.Kinds.{holds}
 use Rattle.kinds.specs.Lawful.{Holds, Notation}
 use Rattle.kinds.proofs.Laws.Coding as Coding
 use Rattle.encodings.specs.Encodings.{Encoding, ofText, encodedBy}
@@ -46,10 +46,15 @@ abbrev pub answerWith : Answer → Judgement → Answer
 answerWith answer Judgement.Held = answer
 answerWith answer (Judgement.Refused why) = refused why
 
--- The number of what a text gives is that of what was read.
-pub text-number : (r : TextRead) → readNumber (ofText r) ≡ textNumber r
-text-number (TextRead.Value v s) = refl
-text-number TextRead.NotOfForm = refl
+-- The number of what a text gives is 3 where nothing is read, ..
+pub text-number : (r : TextRead) → ofText r ≡ none → textNumber r ≡ 3
+text-number (TextRead.Value v s) e = absurd (let z : _≡_ {A = ℕ} 0 1 = cc in omega arith)
+text-number TextRead.NotOfForm e = refl
+
+-- .. and 0 where a value is.
+pub number-read : (r : TextRead) (v : Value) → ofText r ≡ some v → textNumber r ≡ 0
+number-read (TextRead.Value w s) v e = refl
+number-read TextRead.NotOfForm v e = absurd (let z : _≡_ {A = ℕ} 0 1 = cc in omega arith)
 
 -- A text that gives a value is one of its texts, ..
 text-of : (f : Form) (l : List ℕ) (v : Value) (r : TextRead) → readOf f l ≡ r → ofText r ≡ some v → (s : Spelling) × (l ≡ render s v)

@@ -15,7 +15,7 @@ use Rattle.answers.proofs.Laws.Outcomes as Outcomes
 use Rattle.answers.proofs.Laws.Outcomes.{Told, given, withheld}
 use Rattle.calendar.proofs.Laws.Bools.{both}
 use Rattle.kinds.specs.Coding.{encoded, decoded}
-use Rattle.kinds.specs.Kinds.{Kind, holds, readNumber}
+use Rattle.kinds.specs.Kinds.{Kind, holds}
 use Rattle.kinds.specs.Lawful.{Holds, Lawful, Notation}
 use Rattle.kinds.proofs.Laws.Coding as Coding
 use Rattle.exchanges.specs.Demands.{ComesBack, a-result, a-refusal, Demand2, Demand3, Refused, Returned, sent}
@@ -121,45 +121,41 @@ module _ {T F R A : Type 0} (K : Kind T F R A) (L : Lawful K) {S : Type 0} (rend
     }
 
   -- A text that is of the form of a reader's type is of the writer's form.
-  alike : (w r : T) (v : A) → Holds K w v → readNumber (K .readText (K .form r) (K .textOf v)) ≡ 0 → K .form w ≡ K .form r
-  alike w r v h e = go (K .readText (K .form r) (K .textOf v)) refl e
-    where
-      go : (o : Option A) → K .readText (K .form r) (K .textOf v) ≡ o → readNumber o ≡ 0 → K .form w ≡ K .form r
-      go (some b) q e = N .one-form w v h (K .form r) b q
-      go none q e = absurd (omega arith)
+  alike : (w r : T) (v a : A) → Holds K w v → K .readText (K .form r) (K .textOf v) ≡ some a → K .form w ≡ K .form r
+  alike w r v a h e = N .one-form w v h (K .form r) a e
 
   -- Rows alike, and octets give nothing at the form of a reader's type where the text is not of it.
   module _ (w r : T) (fw : K .wellFormed w ≡ true) (fr : K .wellFormed r ≡ true) (same : K .row w ≡ K .row r) (v : A) (hw : holds K w v ≡ true)
-      (other : readNumber (K .readText (K .form r) (K .textOf v)) ≡ 3 → K .readOctets (K .row r) (K .form r) (K .encoding (K .row w) v) ≡ none)
+      (other : K .readText (K .form r) (K .textOf v) ≡ none → K .readOctets (K .row r) (K .form r) (K .encoding (K .row w) v) ≡ none)
       (sender : Answer) (lent : List ℕ) (x : sender ≡ done (K .encoding (K .row w) v) (K .count (K .row w) v)) (ok : outcomeOf sender lent .number ≡ 0)
       (read : List ℕ → Answer) (y : (l : List ℕ) → read l ≡ decoded K r l) where
     as-written : (sent sender lent ≡ K .encoding (K .row w) v) × (K .count (K .row w) v ≡ outcomeOf sender lent .bits)
     as-written = rw x (let q = sent-is (K .encoding (K .row w) v) lent (K .count (K .row w) v) (rw x at ok) in (sym (q .0), q .1))
 
-    own : holds K r v ≡ true → readNumber (K .readText (K .form r) (K .textOf v)) ≡ 0
-    own h = ap readNumber (L .text-own r v (held r v fr h))
+    own : holds K r v ≡ true → K .readText (K .form r) (K .textOf v) ≡ some v
+    own h = L .text-own r v (held r v fr h)
 
     -- where the form is the writer's, the reader's type decides
-    decides : readNumber (K .readText (K .form r) (K .textOf v)) ≡ 0 → (b : Bool) → K .inType r v ≡ b
+    decides : (a : A) → K .readText (K .form r) (K .textOf v) ≡ some a → (b : Bool) → K .inType r v ≡ b
         → read (sent sender lent) ≡ cond b (done (K .textOf v) (outcomeOf sender lent .bits)) (refused Refusal.Membership)
-    decides e b i =
+    decides a e b i =
         let s = as-written in
         let h = held w v fw hw in
-        ap read (s .0) ∙ y (K .encoding (K .row w) v) ∙ Coding.read-back K L w r v (alike w r v h e) same h fr ∙ rw (i, s .1)
+        ap read (s .0) ∙ y (K .encoding (K .row w) v) ∙ Coding.read-back K L w r v (alike w r v a h e) same h fr ∙ rw (i, s .1)
 
     outside : holds K r v ≡ false → K .inType r v ≡ false
     outside h = let e = both (K .exists v) (K .inType w v) hw .0 in rw e at h
 
     returned : holds K r v ≡ true → read (sent sender lent) ≡ done (K .textOf v) (outcomeOf sender lent .bits)
-    returned h = decides (own h) true (both (K .exists v) (K .inType r v) h .1)
+    returned h = decides v (own h) true (both (K .exists v) (K .inType r v) h .1)
 
-    not-read : readNumber (K .readText (K .form r) (K .textOf v)) ≡ 3 → read (sent sender lent) ≡ refused Refusal.Form
+    not-read : K .readText (K .form r) (K .textOf v) ≡ none → read (sent sender lent) ≡ refused Refusal.Form
     not-read e = ap read (as-written .0) ∙ y (K .encoding (K .row w) v) ∙ Coding.decoded-none K r (K .encoding (K .row w) v) fr (other e)
 
     pub meets-3 : Demand3 K sender lent read r v
     meets-3 = record {
       returns = λ h room l. fits _ room _ _ (returned h) l;
       no-room = λ h room l. short _ room _ _ (returned h) l;
-      refuses-5 = λ h e room. no-answer _ room Refusal.Membership (decides e false (outside h));
+      refuses-5 = λ h a e room. no-answer _ room Refusal.Membership (decides a e false (outside h));
       refuses-3 = λ e room. no-answer _ room Refusal.Form (not-read e);
     }

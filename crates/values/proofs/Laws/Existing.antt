@@ -12,7 +12,6 @@ use Rattle.calendar.proofs.Laws.Bools.{both}
 use Rattle.calendar.proofs.Laws.Dates.{InRange, in-range}
 use Rattle.calendar.specs.Dates.{existsOf}
 use Rattle.calendar.specs.declared.dates.Date.{Date}
-use Rattle.answers.specs.Refusals.{numberOf}
 use Rattle.answers.specs.declared.refusals.Refusal.{Refusal}
 use Rattle.printing.proofs.Laws.Canonical.{can-print, text-front, text-length, text-size}
 use Rattle.printing.specs.Canonical.{bufferWith, textCapacity, lengthIn, printable}
@@ -173,12 +172,16 @@ admitted-held t l v = go (wellFormed t) refl (readOf (formOf t) l) refl where
   go true x TextRead.NotOfForm y g = absurd (let z : _≡_ {A = ℕ} 0 1 = cc in omega arith)
   go false x r y g = absurd (let z : _≡_ {A = ℕ} 0 1 = cc in omega arith)
 
+-- The number of a text that is not of the form is 3, and of any other 0.
+pub text-told : (v : Value) (s : Spelling) → (textNumber (TextRead.Value v s) ≡ 0) × (textNumber TextRead.NotOfForm ≡ 3)
+text-told v s = (refl, refl)
+
 -- Where a text's number at the type's form is 3, that is the answer, whatever else there is to say of it.
-pub form-first : (t : Ty) (l : List ℕ) → wellFormed t ≡ true → textNumber (readOf (formOf t) l) ≡ numberOf Refusal.Form →
+pub form-first : (t : Ty) (l : List ℕ) → wellFormed t ≡ true → textNumber (readOf (formOf t) l) ≡ 3 →
     admitted t l ≡ Admission.Refused Refusal.Form
 unfolding admitted
 form-first t l w = go (readOf (formOf t) l) where
-  go : (r : TextRead) → textNumber r ≡ numberOf Refusal.Form → cond (wellFormed t) (judgedRead t r) (Admission.Refused Refusal.Settings) ≡ Admission.Refused Refusal.Form
+  go : (r : TextRead) → textNumber r ≡ 3 → cond (wellFormed t) (judgedRead t r) (Admission.Refused Refusal.Settings) ≡ Admission.Refused Refusal.Form
   go (TextRead.Value v s) e = absurd (let z : _≡_ {A = ℕ} 0 1 = omega arith in omega arith)
   go TextRead.NotOfForm e = rw w
 
