@@ -76,10 +76,11 @@ pub distance-back : (y : ℤ) → atDistance (distanceOf y) ≡ y
 distance-back (pos k) = refl
 distance-back (negsuc k) = refl
 
--- The year 0000 and those after it lie since it, never before, and the others before it.
+-- The years from 0000 on lie since it, so that 0000 is not before itself, ..
 pub distance-since : (k : ℕ) → distanceOf (pos k) ≡ Distance.Since k
 distance-since k = refl
 
+-- .. and the others before it.
 pub distance-before : (k : ℕ) → distanceOf (negsuc k) ≡ Distance.Before (suc k)
 distance-before k = refl
 

@@ -75,7 +75,7 @@ texts-checked =
     spelled (Value.Time (time (Clock.HM 15 27) 1 5 (difference true 9 0))) "15:27,5-09:00" (spelling true true) refl ∷
     -- "A date-time has `T` between."
     shown (Value.DateTime (Date.YMD (yearAt (pos 2006)) 6 13) (time (Clock.HMS 15 27 46) 0 0 Zone.L)) "2006-06-13T15:27:46" refl refl ∷
-    spelled (Value.DateTime (Date.YW (yearAt (pos 2006)) 24) (time (Clock.HM 15 27) 0 0 (difference false 1 0))) "2006-W24T15:27+01:00" (spelling false true) refl ∷
+    spelled (Value.DateTime (Date.YW (yearAt (pos 2006)) 24) (time (Clock.H 15) 0 0 (difference false 1 0))) "2006-W24T15+01:00" (spelling false true) refl ∷
     -- "a field of the right digit count is of the form at any number, so month 13, weekday 8 or hour 25"
     shown (Value.Date (Date.YMD (yearAt (pos 2006)) 13 99)) "2006-13-99" refl refl ∷
     shown (Value.Date (Date.YD (yearAt (pos 2006)) 999)) "2006-999" refl refl ∷

@@ -19,11 +19,12 @@ use Rattle.texts.specs.declared.texts.TextRead.{TextRead}
 use Rattle.texts.specs.Octets.{hyphen, plus, colon, comma, stop, letterT}
 use Rattle.texts.specs.Digits.{putDigits}
 use Rattle.texts.specs.Years.{putYear, yearDigits, yearText}
-use Rattle.texts.specs.Forms.{yearOf}
+use Rattle.texts.specs.Forms.{yearOf, valueForm}
 use Rattle.texts.specs.Dates.{putAfter, putDate}
 use Rattle.texts.specs.Times.{putClock, fraction, putFraction, putMinutes, putZone, putTime, canonical}
-use Rattle.texts.specs.Texts.{render, textOf, readUpTo}
-use Rattle.texts.proofs.Laws.Texts.{render-read}
+use Rattle.texts.specs.Texts.{render, textOf, shownIn, readUpTo}
+use Rattle.texts.proofs.Laws.Fits.{Fits}
+use Rattle.texts.proofs.Laws.Texts.{read-render, render-read}
 
 -- A text with a comma for each full stop, ..
 unfoldable pub stopsAsCommas : List ℕ → List ℕ
@@ -50,6 +51,11 @@ zeroShown (Value.DateTime d t) = wholeHours (t .zone)
 -- `:00`, or nothing.
 abbrev pub zeroMinutesText : Bool → List ℕ
 zeroMinutesText shown = cond shown (58 ∷ 48 ∷ 48 ∷ []) []
+
+-- The canonical text of a value, with a comma for the full stop where the spelling says so, and with `:00` behind it where the spelling says
+-- so and the value ends in a difference of whole hours, that of 0 hours too.
+abbrev pub spelledText : Spelling → Value → List ℕ
+spelledText s v = cond (s .comma) (stopsAsCommas (textOf v)) (textOf v) ++ zeroMinutesText (zeroShown v && s .zeros)
 
 -- ---- texts without a comma or a full stop
 
@@ -190,10 +196,8 @@ spelled-date-time : (t : Bool) (d : Date) (r : List ℕ) → spelledWith t (putD
 unfolding plain
 spelled-date-time t d r = in-front t (putDate d) (letterT ∷ r) (plain-date d) ∙ ap (λ (x : List ℕ). putDate d ++ x) (in-front t (letterT ∷ []) r refl)
 
--- Every text of a value is its canonical text, with a comma for the full stop where the spelling says so, and with `:00` behind it where
--- the spelling says so and the value ends in a difference of whole hours, that of 0 hours too.
-pub spelled-only : (s : Spelling) (v : Value) →
-    render s v ≡ cond (s .comma) (stopsAsCommas (textOf v)) (textOf v) ++ zeroMinutesText (zeroShown v && s .zeros)
+-- Every text of a value is such a text, ..
+pub spelled-only : (s : Spelling) (v : Value) → render s v ≡ spelledText s v
 unfolding render spelledWith
 spelled-only s (Value.Date d) = sym (ap (λ (x : List ℕ). x ++ []) (plain-spelled (s .comma) (putDate d) (plain-date d)) ∙ append-nil (putDate d))
 spelled-only s (Value.Time t) = spelled-time s t
@@ -202,10 +206,15 @@ spelled-only s (Value.DateTime d t) =
     rw (spelled-time s t)
     (sym (ap (λ (x : List ℕ). x ++ minutes) (spelled-date-time (s .comma) d (putTime canonical t)) ∙ append-assoc (putDate d) _ minutes))
 
--- So whatever is read is the canonical text of its value but for these two: no small letter, no space and no quotation mark is read.
-pub read-spelled : (most : ℕ) → 4 ≤ most → most ≤ 9 → (f : Form) (l : List ℕ) (v : Value) (s : Spelling) → readUpTo most f l ≡ TextRead.Value v s →
-    l ≡ cond (s .comma) (stopsAsCommas (textOf v)) (textOf v) ++ zeroMinutesText (zeroShown v && s .zeros)
+-- .. so whatever is read is one, in no more spellings than these: no small letter, no space and no quotation mark is read, ..
+pub read-spelled : (most : ℕ) → 4 ≤ most → most ≤ 9 → (f : Form) (l : List ℕ) (v : Value) (s : Spelling) →
+    readUpTo most f l ≡ TextRead.Value v s → l ≡ spelledText s v
 read-spelled most low high f l v s e = render-read most low high f l v s e .0 ∙ spelled-only s v
+
+-- .. and each of them is read, in no fewer: a comma in every form with a fraction, `:00` in every form with a difference.
+pub spelled-read : (most : ℕ) → 4 ≤ most → most ≤ 20 → (s : Spelling) (v : Value) → Fits most v →
+    readUpTo most (valueForm v) (spelledText s v) ≡ TextRead.Value v (shownIn s v)
+spelled-read most low high s v h = rw (← spelled-only s v) (read-render most low high s v h)
 
 -- ---- a full stop for the comma
 
