@@ -15,6 +15,9 @@ import per  # noqa: E402
 import settings  # noqa: E402
 import texts  # noqa: E402
 
+# a text in a row, where a quotation mark has a backslash before it
+QUOTED = r'"((?:[^"\\]|\\")*)"'
+
 CALENDAR = ROOT / "crates/calendar/proofs/Laws/Checked.antt"
 YEAR = re.compile(r"^ +year \((\w+ \d+)\) (true|false) (\d+) (\d+) (\d+) ∷", re.M)
 DATE = re.compile(r"^ +date \(Date\.(\w+) \(yearAt \((\w+ \d+)\)\)((?: \d+)*)\) (true|false) ∷", re.M)
@@ -22,7 +25,7 @@ DATE = re.compile(r"^ +date \(Date\.(\w+) \(yearAt \((\w+ \d+)\)\)((?: \d+)*)\) 
 SHOWN_TEXTS = ROOT / "crates/texts/proofs/Laws/Checked.antt"
 SHOWN = re.compile(r'^ +shown (\(.*\)) "([^"]*)" refl refl ∷', re.M)
 SPELLED = re.compile(r'^ +spelled (\(.*\)) "([^"]*)" \(spelling (true|false) (true|false)\) refl ∷', re.M)
-NOT_OF_FORM = re.compile(r'^ +none DateForm\.(\w+) "([^"]*)" refl ∷', re.M)
+NOT_OF_FORM = re.compile(rf"^ +none DateForm\.(\w+) {QUOTED} refl ∷", re.M)
 DATE_VALUE = re.compile(r"Date\.(\w+) \(yearAt \((\w+ \d+)\)\)((?: \d+)*)")
 TIME_VALUE = re.compile(
     r"time \(Clock\.(\w+)((?: \d+)+)\) (\d+) (\d+) \(?(?:Zone\.([LZ])|difference (true|false) (\d+) (\d+))"
@@ -47,7 +50,7 @@ LIMITS = {
 }
 
 TEXTS = ROOT / "crates/values/proofs/Laws/Checked.antt"
-TEXT = re.compile(r'^ +row "([^"]*)" "([^"]*)" (\d) "([^"]*)" ∷', re.M)
+TEXT = re.compile(rf'^ +row "([^"]*)" {QUOTED} (\d) "([^"]*)" ∷', re.M)
 UNDER = re.compile(r'^ +under "([^"]*)" (\w+) "([^"]*)" (\d) "([^"]*)" ∷', re.M)
 
 SETTINGS = ROOT / "crates/values/proofs/Laws/Holding.antt"
@@ -125,6 +128,11 @@ def expect(table, row, said, expected):
         sys.exit(f"{table.relative_to(ROOT)}: {row}: the reference has {expected}")
 
 
+def unquoted(text):
+    """The octets of a text that a row quotes."""
+    return text.replace('\\"', '"').encode()
+
+
 def truth(test):
     return "true" if test else "false"
 
@@ -182,7 +190,7 @@ def check_shown():
             expect(SHOWN_TEXTS, text, text.encode(), texts.canonical_text(value))
     for form, text in none:
         t = settings.read_type(f"Basic=Date Date={form} Year=Basic".encode())
-        expect(SHOWN_TEXTS, text, None, texts.read_text(t, text.encode()))
+        expect(SHOWN_TEXTS, text, None, texts.read_text(t, unquoted(text)))
 
 
 def setting_number(name, setting):
@@ -222,7 +230,7 @@ def check_texts():
     found, limited = rows(TEXTS, TEXT, UNDER)
     found = [(type_text, "noLimits", *rest) for type_text, *rest in found]
     for type_text, limits, text, number, canonical in found + limited:
-        judged = texts.judge(type_text.encode(), LIMITS[limits], text.encode())
+        judged = texts.judge(type_text.encode(), LIMITS[limits], unquoted(text))
         expect(TEXTS, f"{type_text} {limits} {text}", (int(number), canonical.encode()), (judged[0], judged[1] or b""))
 
 

@@ -78,12 +78,6 @@ dates =
     date (Date.YM (yearAt (pos 2006)) 13) false ∷
     date (Date.YMD (yearAt (pos 2006)) 6 0) false ∷
     date (Date.YMD (yearAt (pos 2006)) 6 13) true ∷
-    date (Date.YMD (yearAt (pos 2006)) 6 30) true ∷
-    date (Date.YMD (yearAt (pos 2006)) 6 31) false ∷
-    date (Date.YMD (yearAt (pos 2006)) 2 28) true ∷
-    date (Date.YMD (yearAt (pos 2006)) 2 29) false ∷
-    date (Date.YMD (yearAt (pos 2004)) 2 29) true ∷
-    date (Date.YMD (yearAt (pos 2004)) 2 30) false ∷
     date (Date.YMD (yearAt (pos 1900)) 2 29) false ∷
     date (Date.YMD (yearAt (pos 2000)) 2 29) true ∷
     date (Date.YMD (yearAt (pos 1500)) 2 29) false ∷
@@ -92,10 +86,58 @@ dates =
     date (Date.YMD (yearAt (negsuc 99)) 2 29) false ∷
     date (Date.YMD (yearAt (negsuc 399)) 2 29) true ∷
     date (Date.YMD (yearAt (pos 2006)) 0 1) false ∷
-    date (Date.YMD (yearAt (pos 2006)) 12 31) true ∷
-    date (Date.YMD (yearAt (pos 2006)) 12 32) false ∷
     date (Date.YMD (yearAt (pos 2006)) 13 1) false ∷
     date (Date.YMD (yearAt (pos 2006)) 257 1) false ∷
+    -- each month's last day, and the day after it, in a common year and in a leap year
+    date (Date.YMD (yearAt (pos 2006)) 1 31) true ∷
+    date (Date.YMD (yearAt (pos 2006)) 1 32) false ∷
+    date (Date.YMD (yearAt (pos 2006)) 2 28) true ∷
+    date (Date.YMD (yearAt (pos 2006)) 2 29) false ∷
+    date (Date.YMD (yearAt (pos 2006)) 3 31) true ∷
+    date (Date.YMD (yearAt (pos 2006)) 3 32) false ∷
+    date (Date.YMD (yearAt (pos 2006)) 4 30) true ∷
+    date (Date.YMD (yearAt (pos 2006)) 4 31) false ∷
+    date (Date.YMD (yearAt (pos 2006)) 5 31) true ∷
+    date (Date.YMD (yearAt (pos 2006)) 5 32) false ∷
+    date (Date.YMD (yearAt (pos 2006)) 6 30) true ∷
+    date (Date.YMD (yearAt (pos 2006)) 6 31) false ∷
+    date (Date.YMD (yearAt (pos 2006)) 7 31) true ∷
+    date (Date.YMD (yearAt (pos 2006)) 7 32) false ∷
+    date (Date.YMD (yearAt (pos 2006)) 8 31) true ∷
+    date (Date.YMD (yearAt (pos 2006)) 8 32) false ∷
+    date (Date.YMD (yearAt (pos 2006)) 9 30) true ∷
+    date (Date.YMD (yearAt (pos 2006)) 9 31) false ∷
+    date (Date.YMD (yearAt (pos 2006)) 10 31) true ∷
+    date (Date.YMD (yearAt (pos 2006)) 10 32) false ∷
+    date (Date.YMD (yearAt (pos 2006)) 11 30) true ∷
+    date (Date.YMD (yearAt (pos 2006)) 11 31) false ∷
+    date (Date.YMD (yearAt (pos 2006)) 12 31) true ∷
+    date (Date.YMD (yearAt (pos 2006)) 12 32) false ∷
+    date (Date.YMD (yearAt (pos 2004)) 1 31) true ∷
+    date (Date.YMD (yearAt (pos 2004)) 1 32) false ∷
+    date (Date.YMD (yearAt (pos 2004)) 2 29) true ∷
+    date (Date.YMD (yearAt (pos 2004)) 2 30) false ∷
+    date (Date.YMD (yearAt (pos 2004)) 3 31) true ∷
+    date (Date.YMD (yearAt (pos 2004)) 3 32) false ∷
+    date (Date.YMD (yearAt (pos 2004)) 4 30) true ∷
+    date (Date.YMD (yearAt (pos 2004)) 4 31) false ∷
+    date (Date.YMD (yearAt (pos 2004)) 5 31) true ∷
+    date (Date.YMD (yearAt (pos 2004)) 5 32) false ∷
+    date (Date.YMD (yearAt (pos 2004)) 6 30) true ∷
+    date (Date.YMD (yearAt (pos 2004)) 6 31) false ∷
+    date (Date.YMD (yearAt (pos 2004)) 7 31) true ∷
+    date (Date.YMD (yearAt (pos 2004)) 7 32) false ∷
+    date (Date.YMD (yearAt (pos 2004)) 8 31) true ∷
+    date (Date.YMD (yearAt (pos 2004)) 8 32) false ∷
+    date (Date.YMD (yearAt (pos 2004)) 9 30) true ∷
+    date (Date.YMD (yearAt (pos 2004)) 9 31) false ∷
+    date (Date.YMD (yearAt (pos 2004)) 10 31) true ∷
+    date (Date.YMD (yearAt (pos 2004)) 10 32) false ∷
+    date (Date.YMD (yearAt (pos 2004)) 11 30) true ∷
+    date (Date.YMD (yearAt (pos 2004)) 11 31) false ∷
+    date (Date.YMD (yearAt (pos 2004)) 12 31) true ∷
+    date (Date.YMD (yearAt (pos 2004)) 12 32) false ∷
+    -- ordinal days, weeks and weekdays
     date (Date.YD (yearAt (pos 2006)) 0) false ∷
     date (Date.YD (yearAt (pos 2006)) 164) true ∷
     date (Date.YD (yearAt (pos 2006)) 365) true ∷

@@ -52,6 +52,38 @@ row-at false k h = at 28 31 commonRow refl k h
 pub month-days : (y : ℤ) (k : ℕ) → 1 ≤ k → k ≤ 12 → (28 ≤ monthLengthOf y k) × (monthLengthOf y k ≤ 31)
 month-days y k l h = rw (month-at y k l) (row-at (leapOf y) (k - 1) (omega arith))
 
+-- a row has so many days at a place
+abbrev At : Bool → ℕ → ℕ → Type 0
+At leap k days = getD (cond leap leapRow commonRow) k 0 ≡ days
+
+-- The length of each month in every year, in numbers: a table whose twelve lengths add up, but in another order, is refused.
+module _ (y : ℤ) where
+  -- Months 1, 3, 5, 7, 8, 10 and 12 have 31 days, ..
+  pub thirty-one-days :
+      (monthLengthOf y 1 ≡ 31) × (monthLengthOf y 3 ≡ 31) × (monthLengthOf y 5 ≡ 31) × (monthLengthOf y 7 ≡ 31) ×
+      (monthLengthOf y 8 ≡ 31) × (monthLengthOf y 10 ≡ 31) × (monthLengthOf y 12 ≡ 31)
+  unfolding monthLengthOf
+  thirty-one-days = go (leapOf y) where
+    go : (leap : Bool) → At leap 0 31 × At leap 2 31 × At leap 4 31 × At leap 6 31 × At leap 7 31 × At leap 9 31 × At leap 11 31
+    go true = (refl, refl, refl, refl, refl, refl, refl)
+    go false = (refl, refl, refl, refl, refl, refl, refl)
+
+  -- .. months 4, 6, 9 and 11 have 30, ..
+  pub thirty-days : (monthLengthOf y 4 ≡ 30) × (monthLengthOf y 6 ≡ 30) × (monthLengthOf y 9 ≡ 30) × (monthLengthOf y 11 ≡ 30)
+  unfolding monthLengthOf
+  thirty-days = go (leapOf y) where
+    go : (leap : Bool) → At leap 3 30 × At leap 5 30 × At leap 8 30 × At leap 10 30
+    go true = (refl, refl, refl, refl)
+    go false = (refl, refl, refl, refl)
+
+  -- .. and month 2 has 29 in a leap year and 28 in any other.
+  pub february-days : monthLengthOf y 2 ≡ cond (leapOf y) 29 28
+  unfolding monthLengthOf
+  february-days = go (leapOf y) where
+    go : (leap : Bool) → At leap 1 (cond leap 29 28)
+    go true = refl
+    go false = refl
+
 -- The months of a year are its days.
 abbrev pub upToMonth : (ℕ → ℕ) → ℕ → ℕ
 upToMonth f zero = 0

@@ -76,6 +76,14 @@ pub distance-back : (y : ℤ) → atDistance (distanceOf y) ≡ y
 distance-back (pos k) = refl
 distance-back (negsuc k) = refl
 
+-- The years from 0000 on lie since it, so that 0000 is not before itself, ..
+pub distance-since : (k : ℕ) → distanceOf (pos k) ≡ Distance.Since k
+distance-since k = refl
+
+-- .. and the others before it.
+pub distance-before : (k : ℕ) → distanceOf (negsuc k) ≡ Distance.Before (suc k)
+distance-before k = refl
+
 -- 32 bits hold the years whose magnitude, `mag`, is below 2147483648 (of -(k + 1) it is k), ..
 pub in32-within : (y : ℤ) → mag y < 2147483648 → in32 y ≡ Astronomical.Within y
 unfolding in32

@@ -67,9 +67,15 @@ texts-checked =
     shown (Value.Time (time (Clock.H 15) 0 0 (difference true 1 30))) "15-01:30" refl refl ∷
     -- "full stop for comma; the difference's minutes dropped when 0"
     spelled (Value.Time (time (Clock.HMS 15 27 46) 3 500 Zone.L)) "15:27:46,500" (spelling true false) refl ∷
+    spelled (Value.Time (time (Clock.HM 15 27) 2 50 Zone.Z)) "15:27,50Z" (spelling true false) refl ∷
+    spelled (Value.Time (time (Clock.H 15) 1 5 (difference true 9 30))) "15,5-09:30" (spelling true false) refl ∷
     spelled (Value.Time (time (Clock.H 15) 0 0 (difference false 1 0))) "15+01:00" (spelling false true) refl ∷
+    spelled (Value.Time (time (Clock.H 15) 0 0 (difference false 0 0))) "15+00:00" (spelling false true) refl ∷
+    spelled (Value.Time (time (Clock.H 15) 0 0 (difference true 0 0))) "15-00:00" (spelling false true) refl ∷
+    spelled (Value.Time (time (Clock.HM 15 27) 1 5 (difference true 9 0))) "15:27,5-09:00" (spelling true true) refl ∷
     -- "A date-time has `T` between."
     shown (Value.DateTime (Date.YMD (yearAt (pos 2006)) 6 13) (time (Clock.HMS 15 27 46) 0 0 Zone.L)) "2006-06-13T15:27:46" refl refl ∷
+    spelled (Value.DateTime (Date.YW (yearAt (pos 2006)) 24) (time (Clock.H 15) 0 0 (difference false 1 0))) "2006-W24T15+01:00" (spelling false true) refl ∷
     -- "a field of the right digit count is of the form at any number, so month 13, weekday 8 or hour 25"
     shown (Value.Date (Date.YMD (yearAt (pos 2006)) 13 99)) "2006-13-99" refl refl ∷
     shown (Value.Date (Date.YD (yearAt (pos 2006)) 999)) "2006-999" refl refl ∷
@@ -79,4 +85,9 @@ texts-checked =
     none DateForm.YMD "2006-06-131" refl ∷
     none DateForm.YD "2006-64" refl ∷
     none DateForm.YMD "2006-164" refl ∷
+    -- no small letter, no space, no quotation mark
+    none DateForm.YW "2006-w24" refl ∷
+    none DateForm.YMD " 2006-06-13" refl ∷
+    none DateForm.YMD "2006-06-13 " refl ∷
+    none DateForm.YMD "\"2006-06-13\"" refl ∷
     []

@@ -53,6 +53,13 @@ rows =
     row "DATE" "2006-06-131" 3 "" ∷
     row "DATE" "2006-06-13Z" 3 "" ∷
     row "DATE" "2006/06/13" 3 "" ∷
+    -- no space, no quotation mark, no small letter
+    row "DATE" " 2006-06-13" 3 "" ∷
+    row "DATE" "2006-06-13 " 3 "" ∷
+    row "DATE" "\"2006-06-13\"" 3 "" ∷
+    row "Basic=Date Date=YW Year=Basic" "2006-w24" 3 "" ∷
+    row "Basic=Time Time=H Local-or-UTC=Z" "10z" 3 "" ∷
+    row "DATE-TIME" "2006-06-13t15:27:46" 3 "" ∷
     -- "whichever Year the type names; a year of another setting than the type's is refusal 5"
     row "DATE" "+12006-06-13" 5 "" ∷
     row "DATE" "-0044-03-15" 5 "" ∷
@@ -89,14 +96,18 @@ rows =
     -- "The fraction's trailing zeros dropped, so that .500 and .5 meet"
     row "Basic=Time Time=HMSF3 Local-or-UTC=L" "15:27:46.500" 0 "15:27:46.500" ∷
     row "Basic=Time Time=HMSF3 Local-or-UTC=L" "15:27:46,500" 0 "15:27:46.500" ∷
+    row "Basic=Time Time=HMF2 Local-or-UTC=Z" "15:27,50Z" 0 "15:27.50Z" ∷
+    row "Basic=Time Time=HF1 Local-or-UTC=LD" "15,5+01:00" 0 "15.5+01" ∷
     row "Basic=Time Time=HMSF3 Local-or-UTC=L" "15:27:46.5" 3 "" ∷
     row "Basic=Time Time=HMSF3 Local-or-UTC=L" "24:00:00.001" 4 "" ∷
     -- differences
     row "Basic=Time Time=H Local-or-UTC=LD" "10+01:00" 0 "10+01" ∷
     row "Basic=Time Time=H Local-or-UTC=LD" "10-01:30" 0 "10-01:30" ∷
     row "Basic=Time Time=H Local-or-UTC=LD" "10+00" 0 "10+00" ∷
+    row "Basic=Time Time=H Local-or-UTC=LD" "10+00:00" 0 "10+00" ∷
     row "Basic=Time Time=H Local-or-UTC=LD" "10+00:30" 0 "10+00:30" ∷
     row "Basic=Time Time=H Local-or-UTC=LD" "10-00" 4 "" ∷
+    row "Basic=Time Time=H Local-or-UTC=LD" "10-00:00" 4 "" ∷
     row "Basic=Time Time=H Local-or-UTC=LD" "10-00:30" 4 "" ∷
     row "Basic=Time Time=H Local-or-UTC=LD" "10+15:59" 0 "10+15:59" ∷
     row "Basic=Time Time=H Local-or-UTC=LD" "10+16" 4 "" ∷
@@ -108,6 +119,7 @@ rows =
     -- dates with times, and the lowest number where several hold
     row "DATE-TIME" "2006-06-13T15:27:46" 0 "2006-06-13T15:27:46" ∷
     row "DATE-TIME" "2006-06-13 15:27:46" 3 "" ∷
+    row "Basic=Date-Time Date=YMD Year=Basic Time=HM Local-or-UTC=LD" "2006-06-13T15:27+01:00" 0 "2006-06-13T15:27+01" ∷
     row "DATE-TIME" "1500-02-30T25:00:00" 4 "" ∷
     row "DATE-TIME" "1500-02-30T25:00" 3 "" ∷
     row "DATE-TIME" "1500-02-28T24:00:00" 5 "" ∷
