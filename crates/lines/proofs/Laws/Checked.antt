@@ -107,6 +107,10 @@ checked-lines : allRight rows ≡ true
 unfolding rows allRight
 checked-lines = refl
 
+-- The octets of a newline and of a carriage return.
+ends-checked : (bytes "\n" ≡ 10 ∷ []) × (bytes "\r" ≡ 13 ∷ [])
+ends-checked = (refl, refl)
+
 -- "whole pairs of hex digits"
 digits : List Row
 digits =
