@@ -33,6 +33,7 @@ TIME_VALUE = re.compile(
 
 LISTS = ROOT / "crates/lists/proofs/Laws/Checked.antt"
 LIST = re.compile(r'^ +list "([^"]*)" (\d+) (\d+) (\d+) (\d+) (\d+) ∷', re.M)
+OCTETS = re.compile(r'^ +octets "([^"]*)" \(((?:\d+ ∷ )+)\[\]\) refl ∷', re.M)
 
 TYPES = ROOT / "crates/settings/proofs/Laws/CheckedTypes.antt"
 TYPE = re.compile(r'^ +text "([^"]*)" (\w+) (\d) ∷', re.M)
@@ -203,12 +204,14 @@ def setting_number(name, setting):
 
 
 def check_lists():
-    """The number of each setting of a list; a list that is refused has none."""
-    (found,) = rows(LISTS, LIST)
+    """The number of each setting of a list; a list that is refused has none; and the octets of texts."""
+    found, octets = rows(LISTS, LIST, OCTETS)
     for text, *said in found:
         read = settings.read_list(text.encode()) or {}
         numbers = [setting_number(name, read.get(name)) for name in settings.SETTINGS]
         expect(LISTS, text, list(map(int, said)), numbers)
+    for text, said in octets:
+        expect(LISTS, text, list(map(int, said.split("∷")[:-1])), list(text.encode("ascii")))
 
 
 def check_types():
@@ -393,10 +396,11 @@ def check_codings():
 
 
 def check_lines():
-    """The reply to each line, with so many zeros behind it."""
+    """The reply to each line, with so many zeros behind it; `\\r` is a carriage return."""
     (found,) = rows(LINES, LINE)
     for text, zeros, said in found:
-        expect(LINES, text, said.encode(), convert_lines.reply(text.encode() + b"0" * int(zeros)))
+        line = text.replace("\\r", "\r").encode() + b"0" * int(zeros)
+        expect(LINES, text, said.encode(), convert_lines.reply(line))
 
 
 if __name__ == "__main__":

@@ -9,4 +9,5 @@ pub mod WellFormed
 pub mod Words
 pub mod Arranged
 pub mod Converse
+pub mod SameSettings
 pub mod NoRow

@@ -66,3 +66,21 @@ allRight (list s b d y t z ∷ l) =
 lists-checked : allRight rows ≡ true
 unfolding rows allRight listOf completed complete timedList datedList addPairs addPair splitOn pairOf fractionNumber placeFrom eqList
 lists-checked = refl
+
+-- a text and its octets, by their numbers
+data TextRow : Type 0 where
+  octets : (s : String) (l : List ℕ) → bytes s ≡ l → TextRow
+
+-- The octets of a text are ASCII's: each letter, digit and mark that the names, the properties and the settings have.
+quoted : List TextRow
+quoted =
+    octets "Basic=Date" (66 ∷ 97 ∷ 115 ∷ 105 ∷ 99 ∷ 61 ∷ 68 ∷ 97 ∷ 116 ∷ 101 ∷ []) refl ∷
+    octets "Year=Proleptic" (89 ∷ 101 ∷ 97 ∷ 114 ∷ 61 ∷ 80 ∷ 114 ∷ 111 ∷ 108 ∷ 101 ∷ 112 ∷ 116 ∷ 105 ∷ 99 ∷ []) refl ∷
+    octets "Year=Negative" (89 ∷ 101 ∷ 97 ∷ 114 ∷ 61 ∷ 78 ∷ 101 ∷ 103 ∷ 97 ∷ 116 ∷ 105 ∷ 118 ∷ 101 ∷ []) refl ∷
+    octets "Year=L5" (89 ∷ 101 ∷ 97 ∷ 114 ∷ 61 ∷ 76 ∷ 53 ∷ []) refl ∷
+    octets "Time=HMSF9" (84 ∷ 105 ∷ 109 ∷ 101 ∷ 61 ∷ 72 ∷ 77 ∷ 83 ∷ 70 ∷ 57 ∷ []) refl ∷
+    octets "Local-or-UTC=Z" (76 ∷ 111 ∷ 99 ∷ 97 ∷ 108 ∷ 45 ∷ 111 ∷ 114 ∷ 45 ∷ 85 ∷ 84 ∷ 67 ∷ 61 ∷ 90 ∷ []) refl ∷
+    octets "Date=YWD" (68 ∷ 97 ∷ 116 ∷ 101 ∷ 61 ∷ 89 ∷ 87 ∷ 68 ∷ []) refl ∷
+    octets "DATE|TIME-OF-DAY" (68 ∷ 65 ∷ 84 ∷ 69 ∷ 124 ∷ 84 ∷ 73 ∷ 77 ∷ 69 ∷ 45 ∷ 79 ∷ 70 ∷ 45 ∷ 68 ∷ 65 ∷ 89 ∷ []) refl ∷
+    octets "0123456789 " (48 ∷ 49 ∷ 50 ∷ 51 ∷ 52 ∷ 53 ∷ 54 ∷ 55 ∷ 56 ∷ 57 ∷ 32 ∷ []) refl ∷
+    []

@@ -92,6 +92,8 @@ texts =
     text "Basic=Date Date=Y Year=Basic|Basic=Date Date=Y Year=Basic" noLimits 1 ∷
     text "Basic=Date Date=Y Year=Basic|Year=Basic Date=Y Basic=Date" noLimits 1 ∷
     text "Basic=Time Time=H Local-or-UTC=L|Basic=Time Time=H Local-or-UTC=L" noLimits 1 ∷
+    text "Basic=Date-Time Date=YMD Year=Basic Time=HMSF3 Local-or-UTC=L|Basic=Date-Time Date=YMD Year=Basic Time=HMSF3 Local-or-UTC=L" noLimits 1 ∷
+    text "Basic=Date-Time Date=YMD Year=Basic Time=HMSF3 Local-or-UTC=L|Local-or-UTC=L Time=HMSF3 Year=Basic Date=YMD Basic=Date-Time" noLimits 1 ∷
     -- three lists, and a name beside a bar
     text "Basic=Date Date=Y Year=Basic|Basic=Date Date=Y Year=Proleptic|Basic=Date Date=Y Year=L5" noLimits 1 ∷
     text "DATE|DATE" noLimits 1 ∷
@@ -109,6 +111,17 @@ texts =
     text "Basic=Date Date=Y Year=Basic|Basic=Time Time=H Local-or-UTC=L" noLimits 2 ∷
     text "Basic=Date Date=Y Year=Basic|Basic=Date-Time Date=Y Year=Proleptic Time=H Local-or-UTC=L" noLimits 2 ∷
     text "Basic=Date-Time Date=Y Year=Basic Time=H Local-or-UTC=L|Basic=Date-Time Date=Y Year=Proleptic Time=H Local-or-UTC=LD" noLimits 2 ∷
+    -- date-times with one Year that differ in Date alone, in Time alone, in n alone and in Local-or-UTC alone, and those of two rows' Years
+    text "Basic=Date-Time Date=YMD Year=Basic Time=HMSF3 Local-or-UTC=L|Basic=Date-Time Date=YD Year=Basic Time=HMSF3 Local-or-UTC=L" noLimits 2 ∷
+    text "Basic=Date-Time Date=YMD Year=Basic Time=HMSF3 Local-or-UTC=L|Basic=Date-Time Date=YMD Year=Basic Time=HMF3 Local-or-UTC=L" noLimits 2 ∷
+    text "Basic=Date-Time Date=YMD Year=Basic Time=HMSF3 Local-or-UTC=L|Basic=Date-Time Date=YMD Year=Basic Time=HMS Local-or-UTC=L" noLimits 2 ∷
+    text "Basic=Date-Time Date=YMD Year=Basic Time=HMSF3 Local-or-UTC=L|Basic=Date-Time Date=YMD Year=Basic Time=HMSF4 Local-or-UTC=L" noLimits 2 ∷
+    text "Basic=Date-Time Date=YMD Year=Basic Time=HMSF3 Local-or-UTC=L|Basic=Date-Time Date=YMD Year=Basic Time=HMSF3 Local-or-UTC=Z" noLimits 2 ∷
+    text "Basic=Date-Time Date=YMD Year=Basic Time=HMSF3 Local-or-UTC=L|Basic=Date-Time Date=YMD Year=Negative Time=HMSF3 Local-or-UTC=L" noLimits 2 ∷
+    text "Basic=Date-Time Date=YMD Year=L5 Time=HMSF3 Local-or-UTC=L|Basic=Date-Time Date=YMD Year=Proleptic Time=HMSF3 Local-or-UTC=L" noLimits 2 ∷
+    -- a date or a time beside both, with one Year
+    text "Basic=Time Time=HMSF3 Local-or-UTC=L|Basic=Date-Time Date=YMD Year=Basic Time=HMSF3 Local-or-UTC=L" noLimits 2 ∷
+    text "Basic=Date Date=YMD Year=Basic|Basic=Date-Time Date=YMD Year=Basic Time=HMSF3 Local-or-UTC=L" noLimits 2 ∷
     -- 1 before 2
     text "Basic=Date Date=Y Year=Basic|Basic=Time Time=H" noLimits 1 ∷
     text "Basic=Date Date=Y Year=Basic|Basic=Date Date=YM Year=L5|Basic=Time Time=H Local-or-UTC=L" noLimits 1 ∷
@@ -125,6 +138,9 @@ texts =
     text "Basic=Date Date=Y Year=L5" noHour24 1 ∷
     text "Basic=Date Date=Y Year=Basic|Basic=Time Time=H Local-or-UTC=L" from2000 1 ∷
     text "Basic=Time Time=H Local-or-UTC=L|Basic=Date Date=Y Year=Basic" noHour24 1 ∷
+    text "Basic=Date-Time Date=YMD Year=Basic Time=HMSF3 Local-or-UTC=L|Basic=Date Date=YMD Year=Basic" noHour24 1 ∷
+    text "Basic=Date-Time Date=YMD Year=Basic Time=HMSF3 Local-or-UTC=L|Basic=Time Time=HMSF3 Local-or-UTC=L" from2000 1 ∷
+    text "Basic=Date Date=YMD Year=Basic|Basic=Time Time=HMSF3 Local-or-UTC=L" bothLimits 1 ∷
     text "Basic=Date Date=Y Year=Basic|Basic=Date Date=YM Year=Basic" from2000 2 ∷
     []
 

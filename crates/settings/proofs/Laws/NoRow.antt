@@ -1,12 +1,14 @@
 -- "two lists that don't make one row": when a type's text is refusal 2. All else that is no type is 1.
 use mathlib.Core.Path.{_≡_, refl, ap, sym, _∙_}
+use mathlib.Core.Logic.{_⊎_, inl, inr}
 use mathlib.Core.List.{List, [], _∷_, _++_, map}
-use mathlib.Core.Bool.{Bool, true, false, _&&_, not, cond, and-eq-true-iff}
+use mathlib.Core.Bool.{Bool, true, false, _&&_, not, cond, and-eq-true-iff, false≢true}
 use Prim.Native.Nat.{ℕ}
 use native.Mathlib.Omega.{arith}
 use Rattle.lists.specs.Octets.{bytes, eqList}
 use Rattle.lists.specs.Lists.{splitOn, yearIn, listOf}
 use Rattle.types.specs.Types.{DATE, TIME-OF-DAY, DATE-TIME, hasDate, hasTime, placed, restricted, limitedTo}
+use Rattle.lists.specs.declared.lists.Settings.{Settings}
 use Rattle.types.specs.declared.types.Limits.{Limits}
 use Rattle.types.specs.declared.types.TypeRead.{TypeRead}
 use Rattle.types.specs.declared.types.«Type».{«Type»}
@@ -15,28 +17,56 @@ use Rattle.settings.specs.Written.{joinWith}
 use Rattle.settings.proofs.Laws.Converse.{split-lacks, too-many}
 use Rattle.settings.proofs.Laws.Joining.{lacks}
 use Rattle.settings.proofs.Laws.ListOrder.{two-texts}
+use Rattle.settings.proofs.Laws.SameSettings.{OnlyYears, equal-are-same, only-years-row, row-only-years, same-are-equal}
 use Rattle.settings.proofs.Laws.Words.{join-split}
 
--- Two lists with a bar between them, each of which can be read and has the limits' places, that differ, and not only in Years of one row.
+-- Two lists with a bar between them, each of which can be read and has the limits' places, that differ, and not "only in Year, and then only as
+-- Basic with Proleptic or Negative with L5".
 pub record TwoRows (limits : Limits) (l : List ℕ) : Type 0 where
   pub first : List ℕ
   pub second : List ℕ
   pub text-is : l ≡ first ++ 124 ∷ second
   pub no-bar : (lacks 124 first ≡ true) × (lacks 124 second ≡ true)
   pub readable : (usable limits (listOf first) ≡ true) × (usable limits (listOf second) ≡ true)
-  pub differ : equalLists (listOf first) (listOf second) ≡ false
-  pub apart : oneRow (listOf first) (listOf second) ≡ false
+  pub differ : listOf first ≡ listOf second → ⊥
+  pub apart : OnlyYears (listOf first) (listOf second) → ⊥
 
-joined-apart : (limits : Limits) (a b : List ℕ) → (usable limits (listOf a) ≡ true) × (usable limits (listOf b) ≡ true) → equalLists (listOf a) (listOf b) ≡ false
-    → oneRow (listOf a) (listOf b) ≡ false → joined limits (listOf a ∷ listOf b ∷ []) ≡ TypeRead.NoRow
+joined-apart : (limits : Limits) (a b : List ℕ) → (usable limits (listOf a) ≡ true) × (usable limits (listOf b) ≡ true)
+    → equalLists (listOf a) (listOf b) ≡ false → oneRow (listOf a) (listOf b) ≡ false → joined limits (listOf a ∷ listOf b ∷ []) ≡ TypeRead.NoRow
 unfolding joined allOf distinct
 joined-apart limits a b u d r = rw (u .0, u .1, d, r)
 
--- Such lists are refusal 2, ..
-pub no-row-given : (limits : Limits) (l : List ℕ) → TwoRows limits l → typeOf limits l ≡ TypeRead.NoRow
-no-row-given limits l r =
-    ap (typeOf limits) (r .text-is) ∙ two-texts limits (r .first) (r .second) (r .no-bar .0) (r .no-bar .1)
-    ∙ joined-apart limits (r .first) (r .second) (r .readable) (r .differ) (r .apart)
+-- A test that cannot hold.
+fails : (t : Bool) → (t ≡ true → ⊥) → t ≡ false
+fails true h = absurd (h refl)
+fails false h = refl
+
+usable-read : (limits : Limits) (s : Settings) → usable limits s ≡ true → s .readable ≡ true
+unfolding usable
+usable-read limits s u = and-eq-true-iff (s .readable) _ .0 u .0
+
+module _ (limits : Limits) (l : List ℕ) (r : TwoRows limits l) where
+  first-read : listOf (r .first) .readable ≡ true
+  first-read = usable-read limits (listOf (r .first)) (r .readable .0)
+
+  second-read : listOf (r .second) .readable ≡ true
+  second-read = usable-read limits (listOf (r .second)) (r .readable .1)
+
+  lists-differ : equalLists (listOf (r .first)) (listOf (r .second)) ≡ false
+  lists-differ = fails _ (λ e. r .differ (equal-are-same (r .first) (r .second) first-read second-read e))
+
+  two-rows : oneRow (listOf (r .first)) (listOf (r .second)) ≡ false
+  two-rows = fails _ (λ e. go (row-only-years (r .first) (r .second) first-read second-read e))
+    where
+      go : (listOf (r .first) ≡ listOf (r .second)) ⊎ OnlyYears (listOf (r .first)) (listOf (r .second)) → ⊥
+      go (inl e) = r .differ e
+      go (inr o) = r .apart o
+
+  -- Such lists are refusal 2, ..
+  pub no-row-given : typeOf limits l ≡ TypeRead.NoRow
+  no-row-given =
+      ap (typeOf limits) (r .text-is) ∙ two-texts limits (r .first) (r .second) (r .no-bar .0) (r .no-bar .1)
+      ∙ joined-apart limits (r .first) (r .second) (r .readable) lists-differ two-rows
 
 limited-not : (limits : Limits) (t : «Type») → limitedTo limits t ≡ TypeRead.NoRow → ⊥
 unfolding limitedTo
@@ -59,6 +89,9 @@ tests true true true r x n j = absurd (let z : _≡_ {A = ℕ} 0 1 = cc in omega
 tests true false e r x n j = absurd (let z : _≡_ {A = ℕ} 0 1 = cc in omega arith)
 tests false v e r x n j = absurd (let z : _≡_ {A = ℕ} 0 1 = cc in omega arith)
 
+held : {t : Bool} → t ≡ true → t ≡ false → ⊥
+held e f = false≢true (sym f ∙ e)
+
 two-pieces : (l p q : List ℕ) → splitOn 124 l ≡ p ∷ q ∷ [] → l ≡ p ++ 124 ∷ q
 unfolding joinWith
 two-pieces l p q e = sym (join-split 124 l) ∙ ap (joinWith 124) e
@@ -75,7 +108,15 @@ module _ (limits : Limits) (l : List ℕ) where
           let n : (lacks 124 p ≡ true) × (lacks 124 q && true ≡ true) = and-eq-true-iff _ _ .0 k in
           let m : (lacks 124 q ≡ true) × (true ≡ true) = and-eq-true-iff _ _ .0 (n .1) in
           let r = tests (usable limits (listOf p)) (usable limits (listOf q)) (equalLists (listOf p) (listOf q)) (oneRow (listOf p) (listOf q)) _ (limited-not limits (listType (listOf p) (yearIn (listOf p) ∷ yearIn (listOf q) ∷ []))) j in
-          record { first = p; second = q; text-is = two-pieces l p q e; no-bar = (n .0, m .0); readable = (r .0, r .1); differ = r .2; apart = r .3 }
+          record {
+            first = p;
+            second = q;
+            text-is = two-pieces l p q e;
+            no-bar = (n .0, m .0);
+            readable = (r .0, r .1);
+            differ = λ i. held (same-are-equal _ _ i) (r .2);
+            apart = λ o. held (only-years-row _ _ o) (r .3);
+          }
       go (p ∷ q ∷ o ∷ ps) e k j = absurd (too-many (map listOf ps) (allOf (usable limits) (map listOf (p ∷ q ∷ o ∷ ps))) (distinct (map listOf (p ∷ q ∷ o ∷ ps))) (passed _ _ j .0))
 
   -- .. and nothing else is.

@@ -4,13 +4,17 @@ use mathlib.Core.Bool.{Bool, true, false, cond, _&&_, _||_}
 use Prim.Native.Nat.{ℕ}
 use native.Mathlib.Omega.{arith}
 use Rattle.calendar.specs.declared.years.Year.{Year}
-use Rattle.types.specs.Types.{everyYear, hasDate, hasTime, limitedTo, limitsOf, placed, restricted, typeNumber}
+use Rattle.types.specs.Types.{everyYear, hasDate, hasTime, limitedTo, limitsOf, noLimits, placed, restricted, typeNumber}
+use Rattle.types.specs.Types.{listed, unlimitedDate, unlimitedTime}
+use Rattle.texts.specs.declared.forms.DateForm.{DateForm}
+use Rattle.texts.specs.declared.forms.TimeForm.{TimeForm}
 use Rattle.types.specs.declared.types.DateType.{DateType}
 use Rattle.types.specs.declared.types.Limits.{Limits}
 use Rattle.types.specs.declared.types.Parts.{Parts}
 use Rattle.types.specs.declared.types.TimeType.{TimeType}
 use Rattle.types.specs.declared.types.TypeRead.{TypeRead}
 use Rattle.types.specs.declared.types.Window.{Window}
+use Rattle.types.specs.declared.types.Years.{Years}
 use Rattle.types.specs.declared.types.«Type».{«Type»}
 
 -- The same settings with exactly the restrictions of these limits.
@@ -72,6 +76,17 @@ limits-carried limits u t = go (limitedTo limits u) (limited-why limits u)
     go r (carried p q i k) e = ap (λ (x : TypeRead). limitsOf (partsIn q x)) (sym e) ∙ limits-of limits p q k
     go r (no-date lowest highest v w i) e = absurd (let z : _≡_ {A = ℕ} 0 1 = cc in omega arith)
     go r (no-time d h i) e = absurd (let z : _≡_ {A = ℕ} 0 1 = cc in omega arith)
+
+-- What `Type::date`, `Type::time` and `Type::date_time` give carries no limits.
+pub built-unlimited : (f : DateForm) (y : Years) (t : TimeForm)
+    → (limitsOf (listed (Parts.Date (unlimitedDate f y)) .parts) ≡ noLimits)
+    × (limitsOf (listed (Parts.Time (unlimitedTime t)) .parts) ≡ noLimits)
+    × (limitsOf (listed (Parts.DateTime (unlimitedDate f y) (unlimitedTime t)) .parts) ≡ noLimits)
+built-unlimited f y t = (refl, refl, refl)
+
+-- No limits: every year, and hour 24.
+pub none-restricted : (noLimits .window ≡ Window.Every) × (noLimits .hour24 ≡ true)
+none-restricted = (refl, refl)
 
 -- "The seven numbers" of types: 1 for "settings ..; a restriction where it has no place", 2 for "two lists that don't make one row".
 pub numbers-told : (t : «Type») → (typeNumber (TypeRead.«Type» t) ≡ 0) × (typeNumber TypeRead.Unreadable ≡ 1) × (typeNumber TypeRead.NoRow ≡ 2)
