@@ -65,19 +65,12 @@ rows =
     line "per;DATE;2006-06-13;" 0 "3" ∷
     line "unper;DATE;0558;" 0 "?" ∷
     line "under;DATE" 0 "?" ∷
-    -- "the number": a type that cannot be read, lists of two rows, a year of another setting, and octets behind an encoding
-    line "per;date;2006-06-13" 0 "1" ∷
-    line "per;;2006-06-13" 0 "1" ∷
-    line "unper;date;0558" 0 "1" ∷
-    line "unper;date;055" 0 "?" ∷
+    -- "the number": of lists of two rows
     line "der;Basic=Date Date=Y Year=Basic|Basic=Date Date=Y Year=L5;2006" 0 "2" ∷
-    line "per;DATE;1581-12-31" 0 "5" ∷
-    line "unper;DATE;055800" 0 "6" ∷
     -- a carriage return is the input's, and a space is that of the part where it stands
     line "per;DATE;2006-06-13\r" 0 "3" ∷
     line "unper;DATE;0558\r" 0 "?" ∷
     line " per;DATE;2006-06-13" 0 "?" ∷
-    line "per; DATE;2006-06-13" 0 "1" ∷
     line "per;DATE; 2006-06-13" 0 "3" ∷
     -- "an unknown work"
     line "PER;DATE;2006-06-13" 0 "?" ∷
@@ -106,6 +99,25 @@ allRight (line text zeros reply ∷ l) =
 checked-lines : allRight rows ≡ true
 unfolding rows allRight
 checked-lines = refl
+
+-- "the number"
+numbered : List Row
+numbered =
+    -- 1, of a type that cannot be read; but hex digits are asked for first
+    line "per;date;2006-06-13" 0 "1" ∷
+    line "per;;2006-06-13" 0 "1" ∷
+    line "per; DATE;2006-06-13" 0 "1" ∷
+    line "unper;date;0558" 0 "1" ∷
+    line "unper;date;055" 0 "?" ∷
+    -- 5, of a year of another setting, and 6, of octets behind an encoding
+    line "per;DATE;1581-12-31" 0 "5" ∷
+    line "unper;DATE;055800" 0 "6" ∷
+    []
+
+-- Each line gives its number.
+numbers-checked : allRight numbered ≡ true
+unfolding numbered allRight
+numbers-checked = refl
 
 -- The octets of a newline and of a carriage return.
 ends-checked : (bytes "\n" ≡ 10 ∷ []) × (bytes "\r" ≡ 13 ∷ [])
