@@ -159,7 +159,8 @@ module _ (limits : Limits) (l : List ℕ) (t : «Type») (h : typeOf limits l �
 
 -- ---- the tests of two lists
 
-four-hold : (a b c d : Bool) → a && b && c && d ≡ true → (a ≡ true) × (b ≡ true) × (c ≡ true) × (d ≡ true)
+-- Of four tests that hold together each holds.
+pub four-hold : (a b c d : Bool) → a && b && c && d ≡ true → (a ≡ true) × (b ≡ true) × (c ≡ true) × (d ≡ true)
 four-hold true true true true e = (refl, refl, refl, refl)
 four-hold true true true false e = absurd (false≢true e)
 four-hold true true false d e = absurd (false≢true e)

@@ -12,6 +12,7 @@ use Rattle.lists.specs.declared.lists.Settings.{Settings}
 use Rattle.settings.specs.TypeTexts.{equalLists, oneRow, sameButYear, yearFamily}
 use Rattle.settings.specs.Written.{YearSetting, basic, proleptic, negative, five}
 use Rattle.settings.proofs.Laws.Arranged.{ListOf, a-date, a-time, a-date-time, list-arranged}
+use Rattle.settings.proofs.Laws.Converse.{four-hold}
 use Rattle.settings.proofs.Laws.Written.{yearNumber}
 
 -- "Basic with Proleptic or Negative with L5", in either order.
@@ -53,13 +54,6 @@ record SameButYear (s t : Settings) : Type 0 where
   date-same : dateIn s ≡ dateIn t
   time-same : timeIn s ≡ timeIn t
   zone-same : zoneIn s ≡ zoneIn t
-
-four-hold : (a b c d : Bool) → a && b && c && d ≡ true → (a ≡ true) × (b ≡ true) × (c ≡ true) × (d ≡ true)
-four-hold true true true true e = (refl, refl, refl, refl)
-four-hold true true true false e = absurd (false≢true e)
-four-hold true true false d e = absurd (false≢true e)
-four-hold true false c d e = absurd (false≢true e)
-four-hold false b c d e = absurd (false≢true e)
 
 but-year : (s t : Settings) → sameButYear s t ≡ true → SameButYear s t
 unfolding sameButYear

@@ -26,15 +26,10 @@ use Rattle.texts.specs.Texts.{render, textOf, shownIn, readUpTo}
 use Rattle.texts.proofs.Laws.Fits.{Fits}
 use Rattle.texts.proofs.Laws.Texts.{read-render, render-read}
 
--- A text with a comma for each full stop, ..
+-- A text with a comma for each full stop.
 unfoldable pub stopsAsCommas : List ℕ → List ℕ
 stopsAsCommas [] = []
 stopsAsCommas (c ∷ l) = cond (eqb c 46) 44 c ∷ stopsAsCommas l
-
--- .. and with a full stop for each comma.
-unfoldable pub commasAsStops : List ℕ → List ℕ
-commasAsStops [] = []
-commasAsStops (c ∷ l) = cond (eqb c 44) 46 c ∷ commasAsStops l
 
 -- Whether a zone is a difference of whole hours: one that is written with `:00` or without.
 abbrev pub wholeHours : Zone → Bool
@@ -57,27 +52,26 @@ zeroMinutesText shown = cond shown (58 ∷ 48 ∷ 48 ∷ []) []
 abbrev pub spelledText : Spelling → Value → List ℕ
 spelledText s v = cond (s .comma) (stopsAsCommas (textOf v)) (textOf v) ++ zeroMinutesText (zeroShown v && s .zeros)
 
--- ---- texts without a comma or a full stop
+-- ---- texts without a full stop
 
 plain : List ℕ → Bool
 plain [] = true
-plain (c ∷ l) = not (eqb c 44) && not (eqb c 46) && plain l
+plain (c ∷ l) = not (eqb c 46) && plain l
 
 plain-append : (l r : List ℕ) → plain l ≡ true → plain r ≡ true → plain (l ++ r) ≡ true
 unfolding plain
 plain-append [] r g h = h
-plain-append (c ∷ l) r g h = go (eqb c 44) (eqb c 46) g (λ e. plain-append l r e h) where
-  go : (s t : Bool) → (not s && not t && plain l) ≡ true → (plain l ≡ true → plain (l ++ r) ≡ true) → (not s && not t && plain (l ++ r)) ≡ true
-  go true t e f = absurd (let z : _≡_ {A = ℕ} 0 1 = cc in omega arith)
-  go false true e f = absurd (let z : _≡_ {A = ℕ} 0 1 = cc in omega arith)
-  go false false e f = f e
+plain-append (c ∷ l) r g h = go (eqb c 46) g (λ e. plain-append l r e h) where
+  go : (t : Bool) → (not t && plain l) ≡ true → (plain l ≡ true → plain (l ++ r) ≡ true) → (not t && plain (l ++ r)) ≡ true
+  go true e f = absurd (let z : _≡_ {A = ℕ} 0 1 = cc in omega arith)
+  go false e f = f e
 
 plain-digits : (w n : ℕ) → plain (putDigits w n) ≡ true
 unfolding plain putDigits
 plain-digits zero n = refl
 plain-digits (suc w) n =
     plain-append (putDigits w (n / 10)) ((48 + n % 10) ∷ []) (plain-digits w (n / 10))
-    (rw (ne-eqb (48 + n % 10) 44 (λ z. omega arith), ne-eqb (48 + n % 10) 46 (λ z. omega arith)))
+    (rw (ne-eqb (48 + n % 10) 46 (λ z. omega arith)))
 
 plain-year : (y : ℤ) → plain (yearText y) ≡ true
 unfolding plain yearText
@@ -138,11 +132,10 @@ stops-append (c ∷ l) r = ap (λ (x : List ℕ). cond (eqb c 46) 44 c ∷ x) (s
 stops-plain : (l : List ℕ) → plain l ≡ true → stopsAsCommas l ≡ l
 unfolding stopsAsCommas plain
 stops-plain [] h = refl
-stops-plain (c ∷ l) h = go (eqb c 44) (eqb c 46) h (stops-plain l) where
-  go : (s t : Bool) → (not s && not t && plain l) ≡ true → (plain l ≡ true → stopsAsCommas l ≡ l) → (cond t 44 c ∷ stopsAsCommas l) ≡ (c ∷ l)
-  go true t e f = absurd (let z : _≡_ {A = ℕ} 0 1 = cc in omega arith)
-  go false true e f = absurd (let z : _≡_ {A = ℕ} 0 1 = cc in omega arith)
-  go false false e f = ap (λ (x : List ℕ). c ∷ x) (f e)
+stops-plain (c ∷ l) h = go (eqb c 46) h (stops-plain l) where
+  go : (t : Bool) → (not t && plain l) ≡ true → (plain l ≡ true → stopsAsCommas l ≡ l) → (cond t 44 c ∷ stopsAsCommas l) ≡ (c ∷ l)
+  go true e f = absurd (let z : _≡_ {A = ℕ} 0 1 = cc in omega arith)
+  go false e f = ap (λ (x : List ℕ). c ∷ x) (f e)
 
 -- what is plain keeps its place in front or behind
 in-front : (t : Bool) (l r : List ℕ) → plain l ≡ true → spelledWith t (l ++ r) ≡ l ++ spelledWith t r
@@ -215,44 +208,3 @@ read-spelled most low high f l v s e = render-read most low high f l v s e .0 �
 pub spelled-read : (most : ℕ) → 4 ≤ most → most ≤ 20 → (s : Spelling) (v : Value) → Fits most v →
     readUpTo most (valueForm v) (spelledText s v) ≡ TextRead.Value v (shownIn s v)
 spelled-read most low high s v h = rw (← spelled-only s v) (read-render most low high s v h)
-
--- ---- a full stop for the comma
-
-commas-append : (l r : List ℕ) → commasAsStops (l ++ r) ≡ commasAsStops l ++ commasAsStops r
-unfolding commasAsStops
-commas-append [] r = refl
-commas-append (c ∷ l) r = ap (λ (x : List ℕ). cond (eqb c 44) 46 c ∷ x) (commas-append l r)
-
-commas-plain : (l : List ℕ) → plain l ≡ true → commasAsStops l ≡ l
-unfolding commasAsStops plain
-commas-plain [] h = refl
-commas-plain (c ∷ l) h = go (eqb c 44) (eqb c 46) h (commas-plain l) where
-  go : (s t : Bool) → (not s && not t && plain l) ≡ true → (plain l ≡ true → commasAsStops l ≡ l) → (cond s 46 c ∷ commasAsStops l) ≡ (c ∷ l)
-  go true t e f = absurd (let z : _≡_ {A = ℕ} 0 1 = cc in omega arith)
-  go false true e f = absurd (let z : _≡_ {A = ℕ} 0 1 = cc in omega arith)
-  go false false e f = ap (λ (x : List ℕ). c ∷ x) (f e)
-
-commas-fraction : (n m : ℕ) → commasAsStops (putFraction n (fraction false m)) ≡ putFraction n (fraction false m)
-unfolding putFraction commasAsStops
-commas-fraction n m = go (eqb n 0) where
-  go : (u : Bool) → commasAsStops (cond u [] (stop ∷ putDigits n m)) ≡ cond u [] (stop ∷ putDigits n m)
-  go true = refl
-  go false = ap (λ (x : List ℕ). stop ∷ x) (commas-plain (putDigits n m) (plain-digits n m))
-
-commas-time : (t : Time) → commasAsStops (putTime canonical t) ≡ putTime canonical t
-unfolding putTime
-commas-time t =
-    rw (
-      commas-append (putClock (t .clock)) (putFraction (t .digits) (fraction false (t .fraction)) ++ putZone false (t .zone)),
-      commas-append (putFraction (t .digits) (fraction false (t .fraction))) (putZone false (t .zone)),
-      commas-plain (putClock (t .clock)) (plain-clock (t .clock)),
-      commas-fraction (t .digits) (t .fraction),
-      commas-plain (putZone false (t .zone)) (plain-zone (t .zone)),
-    )
-
--- No canonical text has a comma.
-pub canonical-no-comma : (v : Value) → commasAsStops (textOf v) ≡ textOf v
-unfolding render commasAsStops
-canonical-no-comma (Value.Date d) = commas-plain (putDate d) (plain-date d)
-canonical-no-comma (Value.Time t) = commas-time t
-canonical-no-comma (Value.DateTime d t) = rw (commas-append (putDate d) (letterT ∷ putTime canonical t), commas-plain (putDate d) (plain-date d), commas-time t)
