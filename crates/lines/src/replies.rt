@@ -23,10 +23,10 @@ use lists::words::same;
 use types::Limits;
 use values::TEXT_CAPACITY;
 
-// How many octets a room for replies has: the longestLine reply, and slack.
+// How many octets a room for replies has: the longest reply, and slack.
 pub const REPLY_CAPACITY: usize = 288;
 
-// The longestLine line that asks anything, without its newline.
+// The longest line that asks anything, without its newline.
 pub const LONGEST: usize = 1024;
 
 // As many octets as the hex of a line can give.

@@ -31,11 +31,11 @@ settings ns = record { readable = true; numbers = ns }
 abbrev pub noneYet : List ℕ
 noneYet = 0 ∷ 0 ∷ 0 ∷ 0 ∷ 0 ∷ []
 
--- Any list that is refusedList.
+-- Any list that is refused.
 abbrev pub refusedList : Settings
 refusedList = record { readable = false; numbers = noneYet }
 
--- "each property at most once": one pair more, refusedList where it is no setting, or where its property has one already.
+-- "each property at most once": one pair more, refused where it is no setting, or where its property has one already.
 unfoldable pub addPair : Settings → Pair → Settings
 addPair s p =
     cond (s .readable && (ltb 0 (p .setting) && eqb (getD (s .numbers) (p .property) 0) 0))
@@ -89,7 +89,7 @@ complete s =
     && presentIf (timedList s) (timeIn s)
     && presentIf (timedList s) (zoneIn s)
 
--- A list with something missing, or out of place, is refusedList.
+-- A list with something missing, or out of place, is refused.
 unfoldable pub completed : Settings → Settings
 completed s = cond (complete s) s refusedList
 

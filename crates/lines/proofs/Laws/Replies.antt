@@ -56,7 +56,7 @@ length-most answer room e = rw e (go (told answer room)) where
 abbrev replyOn : (List ℕ → List ℕ) → Outcome → List ℕ → List ℕ
 replyOn show outcome left = replyTo show (outcome .number) (outcome .length .count) left
 
--- An answer whose result has its place in the buffer is answerShown.
+-- An answer whose result has its place in the buffer is shown.
 reply-shown : (show : List ℕ → List ℕ) (answer : Answer) (buffer : List ℕ) →
     ((result : List ℕ) (bits : Bits) → answer ≡ done result bits → length result ≤ length buffer) →
     replyOn show (outcomeOf answer buffer) (roomOf answer buffer) ≡ answerShown show answer

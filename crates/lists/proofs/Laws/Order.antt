@@ -21,7 +21,7 @@ fresh ns p = ltb 0 (p .setting) && eqb (getD ns (p .property) 0) 0
 abbrev list : Bool → List ℕ → Settings
 list b ns = record { readable = b; numbers = ns }
 
--- The same property twice is refusedList, ..
+-- The same property twice is refused, ..
 add-twice : (k : Bool) (ns : List ℕ) (p q : Pair) (t : Bool) → fresh ns p ≡ t → p .property ≡ q .property →
     p .property < length ns →
     addPair (addPair (list k ns) p) q ≡ refusedList
