@@ -1,23 +1,52 @@
 ghost use mathlib.Core.Path.{_≡_};
 ghost use Rattle.answers.specs.Outcomes.{outcomeOf, roomOf};
-ghost use Rattle.exchanges.specs.Coding.{perEncode, perDecode, derEncode, derDecode};
+ghost use Rattle.exchanges.specs.Coding.{answerOf, answerUnder, perEncode, perDecode, derEncode, derDecode};
 use answers::Outcome;
 use answers::Refusal;
+use exchanges::Entry;
 use settings::read_type;
 use types::Limits;
+use types::Type;
 use types::TypeRead;
+
+// Puts what an entry point gives under a type at the front of the room, or refuses.
+fn answer_under(entry: Entry, t: Type, input: &[u8], room: &mut [u8]) -> Outcome
+    ensures { λ r. ⌜ r ≡ outcomeOf (answerUnder entry t (now (input .entry))) (now (room .entry)) ⌝ }
+    ensures { λ _. ⌜ now (room .exit) ≡ roomOf (answerUnder entry t (now (input .entry))) (now (room .entry)) ⌝ }
+{
+    match entry {
+        Entry::PerEncode => per::encode(t, input, room),
+        Entry::PerDecode => per::decode(t, input, room),
+        Entry::DerEncode => der::encode(t, input, room),
+        Entry::DerDecode => der::decode(t, input, room),
+    }
+}
+
+// The same under the type that a text names or lists; or the type's refusal, which comes before all others.
+pub fn answer(
+    entry: Entry,
+    settings: &[u8],
+    limits: Limits,
+    input: &[u8],
+    room: &mut [u8],
+) -> Outcome
+    ensures { λ r. ⌜ r ≡ outcomeOf (answerOf entry (now (settings .entry)) limits (now (input .entry))) (now (room .entry)) ⌝ }
+    ensures { λ _. ⌜ now (room .exit) ≡ roomOf (answerOf entry (now (settings .entry)) limits (now (input .entry))) (now (room .entry)) ⌝ }
+{
+    let read = read_type(settings, limits);
+    match read {
+        TypeRead::Type(t) => answer_under(entry, t, input, room),
+        TypeRead::Unreadable => Outcome::refused(Refusal::Settings),
+        TypeRead::NoRow => Outcome::refused(Refusal::Rows),
+    }
+}
 
 // Puts the octets of a text in unaligned PER at the front of the room, or refuses.
 pub fn per_encode(settings: &[u8], limits: Limits, text: &[u8], room: &mut [u8]) -> Outcome
     ensures { λ r. ⌜ r ≡ outcomeOf (perEncode (now (settings .entry)) limits (now (text .entry))) (now (room .entry)) ⌝ }
     ensures { λ _. ⌜ now (room .exit) ≡ roomOf (perEncode (now (settings .entry)) limits (now (text .entry))) (now (room .entry)) ⌝ }
 {
-    let read = read_type(settings, limits);
-    match read {
-        TypeRead::Type(t) => per::encode(t, text, room),
-        TypeRead::Unreadable => Outcome::refused(Refusal::Settings),
-        TypeRead::NoRow => Outcome::refused(Refusal::Rows),
-    }
+    answer(Entry::PerEncode, settings, limits, text, room)
 }
 
 // Puts the canonical text of octets in unaligned PER at the front of the room, or refuses.
@@ -25,12 +54,7 @@ pub fn per_decode(settings: &[u8], limits: Limits, octets: &[u8], room: &mut [u8
     ensures { λ r. ⌜ r ≡ outcomeOf (perDecode (now (settings .entry)) limits (now (octets .entry))) (now (room .entry)) ⌝ }
     ensures { λ _. ⌜ now (room .exit) ≡ roomOf (perDecode (now (settings .entry)) limits (now (octets .entry))) (now (room .entry)) ⌝ }
 {
-    let reader = read_type(settings, limits);
-    match reader {
-        TypeRead::Type(t) => per::decode(t, octets, room),
-        TypeRead::Unreadable => Outcome::refused(Refusal::Settings),
-        TypeRead::NoRow => Outcome::refused(Refusal::Rows),
-    }
+    answer(Entry::PerDecode, settings, limits, octets, room)
 }
 
 // Puts the octets of a text in DER at the front of the room, or refuses.
@@ -38,12 +62,7 @@ pub fn der_encode(settings: &[u8], limits: Limits, text: &[u8], room: &mut [u8])
     ensures { λ r. ⌜ r ≡ outcomeOf (derEncode (now (settings .entry)) limits (now (text .entry))) (now (room .entry)) ⌝ }
     ensures { λ _. ⌜ now (room .exit) ≡ roomOf (derEncode (now (settings .entry)) limits (now (text .entry))) (now (room .entry)) ⌝ }
 {
-    let read = read_type(settings, limits);
-    match read {
-        TypeRead::Type(t) => der::encode(t, text, room),
-        TypeRead::Unreadable => Outcome::refused(Refusal::Settings),
-        TypeRead::NoRow => Outcome::refused(Refusal::Rows),
-    }
+    answer(Entry::DerEncode, settings, limits, text, room)
 }
 
 // Puts the canonical text of octets in DER at the front of the room, or refuses.
@@ -51,10 +70,5 @@ pub fn der_decode(settings: &[u8], limits: Limits, octets: &[u8], room: &mut [u8
     ensures { λ r. ⌜ r ≡ outcomeOf (derDecode (now (settings .entry)) limits (now (octets .entry))) (now (room .entry)) ⌝ }
     ensures { λ _. ⌜ now (room .exit) ≡ roomOf (derDecode (now (settings .entry)) limits (now (octets .entry))) (now (room .entry)) ⌝ }
 {
-    let element_reader = read_type(settings, limits);
-    match element_reader {
-        TypeRead::Type(t) => der::decode(t, octets, room),
-        TypeRead::Unreadable => Outcome::refused(Refusal::Settings),
-        TypeRead::NoRow => Outcome::refused(Refusal::Rows),
-    }
+    answer(Entry::DerDecode, settings, limits, octets, room)
 }

@@ -4,6 +4,7 @@ pub mod coding;
 pub mod exported;
 pub mod limits;
 
+pub use coding::answer;
 pub use coding::der_decode;
 pub use coding::der_encode;
 pub use coding::per_decode;

@@ -37,9 +37,10 @@ use Rattle.per.proofs.Laws.Per.{per-lawful}
 use Rattle.der.specs.Der.{der, derDecoded, derEncoded, inDer}
 use Rattle.der.specs.Elements.{element, elementOf}
 use Rattle.der.proofs.Laws.Der.{der-lawful, element-gives, one-tag}
-use Rattle.exchanges.specs.Coding.{derDecode, derEncode, perDecode, perEncode, underType}
+use Rattle.exchanges.specs.Coding.{answerOf, answerUnder, derDecode, derEncode, perDecode, perEncode, underType}
 use Rattle.exchanges.specs.Limits.{limitsGiven, limitsNumber, underLimits, windowGiven}
-use Rattle.exchanges.specs.Demands.{Entry, per-encode, per-decode, der-encode, der-decode, answerInC, answerOf, encodes, decodes, BitsTold, Demand1, Demand1InC, Demand2InDer, Demand2InPer, Demand3InDer, Demand3InPer, LimitsFromC, LimitsTold, SevenNumbers, TextsTold, TypesTold, ValuesTold}
+use Rattle.exchanges.specs.Demands.{answerInC, encodes, decodes, BitsTold, Demand1, Demand1InC, Demand2InDer, Demand2InPer, Demand3InDer, Demand3InPer, LimitsFromC, LimitsTold, SevenNumbers, TextsTold, TypesTold, ValuesTold}
+use Rattle.exchanges.specs.declared.entries.Entry.{Entry}
 use Rattle.exchanges.specs.declared.limits.LimitsRead.{LimitsRead}
 use Rattle.exchanges.proofs.Laws.Causes.{number-given}
 use Rattle.exchanges.proofs.Laws.Exchanges.{comes-back, meets-2, meets-3, no-answer, written}
@@ -72,13 +73,13 @@ limits-from-c given = record {
 -- ---- demand 2
 
 pub demand-2-per : Demand2InPer
-unfolding perEncode perDecode encodingOf countOf
+unfolding answerOf encodingOf countOf
 demand-2-per settings limits t e =
     meets-2 per per-lawful render (noted inPer) t (read-well-formed limits settings t e) (perEncode settings limits) (perDecode settings limits)
     (λ l. rw e) (λ l. rw e)
 
 pub demand-2-der : Demand2InDer
-unfolding derEncode derDecode elementOf element
+unfolding answerOf elementOf element
 demand-2-der settings limits t e =
     meets-2 der der-lawful render (noted inDer) t (read-well-formed limits settings t e) (derEncode settings limits) (derDecode settings limits)
     (λ l. rw e) (λ l. rw e)
@@ -90,7 +91,7 @@ held : {R : Type 0} (E : Encoding R) (t : Ty) (v : Value) → wellFormed t ≡ t
 held E t v f h = let b = both _ _ h in record { formed = f; real = b .0; inside = b .1 }
 
 pub demand-3-per : Demand3InPer
-unfolding perEncode perDecode
+unfolding answerOf
 demand-3-per settings₁ limits₁ w e₁ settings₂ limits₂ r e₂ v h s room ok q n =
     let k = read-well-formed limits₁ settings₁ w e₁ in
     let f = same-form w r q n in
@@ -104,7 +105,7 @@ demand-3-per settings₁ limits₁ w e₁ settings₂ limits₂ r e₂ v h s roo
     )
 
 pub demand-3-der : Demand3InDer
-unfolding derEncode derDecode
+unfolding answerOf
 demand-3-der settings₁ limits₁ w e₁ settings₂ limits₂ r e₂ v h s room ok q =
     let k = read-well-formed limits₁ settings₁ w e₁ in
     let n : w .name ≡ r .name = one-tag (w .name) (r .name) q in
@@ -117,46 +118,32 @@ demand-3-der settings₁ limits₁ w e₁ settings₂ limits₂ r e₂ v h s roo
 -- ---- the seven numbers
 
 pub seven-numbers : SevenNumbers
-unfolding perEncode perDecode derEncode derDecode
-seven-numbers per-encode settings limits input room =
+unfolding answerOf
+seven-numbers Entry.PerEncode settings limits input room =
     number-given per encodes settings limits input room (perEncode settings limits input) refl (λ t q. read-well-formed limits settings t q)
-seven-numbers per-decode settings limits input room =
+seven-numbers Entry.PerDecode settings limits input room =
     number-given per decodes settings limits input room (perDecode settings limits input) refl (λ t q. read-well-formed limits settings t q)
-seven-numbers der-encode settings limits input room =
+seven-numbers Entry.DerEncode settings limits input room =
     number-given der encodes settings limits input room (derEncode settings limits input) refl (λ t q. read-well-formed limits settings t q)
-seven-numbers der-decode settings limits input room =
+seven-numbers Entry.DerDecode settings limits input room =
     number-given der decodes settings limits input room (derDecode settings limits input) refl (λ t q. read-well-formed limits settings t q)
 
 -- ---- the answers that are enums
 
-abbrev codedAt : Entry → Ty → List ℕ → Answer
-codedAt per-encode t input = perEncoded t input
-codedAt per-decode t input = perDecoded t input
-codedAt der-encode t input = derEncoded t input
-codedAt der-decode t input = derDecoded t input
-
-under-type : (e : Entry) (settings : List ℕ) (limits : Limits) (input : List ℕ)
-    → answerOf e settings limits input ≡ underType (typeOf limits settings) λ t. codedAt e t input
-unfolding perEncode perDecode derEncode derDecode
-under-type per-encode settings limits input = refl
-under-type per-decode settings limits input = refl
-under-type der-encode settings limits input = refl
-under-type der-decode settings limits input = refl
-
 pub types-told : TypesTold
-unfolding outcomeOf
-types-told e settings limits input room n =
-    ap (λ (a : Answer). outcomeOf a room .number) (under-type e settings limits input) ∙ go (typeOf limits settings) n
+unfolding outcomeOf answerOf
+types-told e settings limits input room n = go (typeOf limits settings) n
   where
-    go : (r : TypeRead) → typeNumber r ≢ 0 → outcomeOf (underType r λ t. codedAt e t input) room .number ≡ typeNumber r
+    go : (r : TypeRead) → typeNumber r ≢ 0 → outcomeOf (underType r λ t. answerUnder e t input) room .number ≡ typeNumber r
     go (TypeRead.«Type» t) n = absurd (n refl)
     go TypeRead.Unreadable n = refl
     go TypeRead.NoRow n = refl
 
 module _ (settings : List ℕ) (limits : Limits) (t : Ty) (q : typeOf limits settings ≡ TypeRead.«Type» t) (input room : List ℕ) where
   -- what is answered under the type that is read
-  under-read : (e : Entry) (a : Answer) → codedAt e t input ≡ a → outcomeOf (answerOf e settings limits input) room .number ≡ outcomeOf a room .number
-  under-read e a c = ap (λ (b : Answer). outcomeOf b room .number) (under-type e settings limits input ∙ rw q c)
+  under-read : (e : Entry) (a : Answer) → answerUnder e t input ≡ a → outcomeOf (answerOf e settings limits input) room .number ≡ outcomeOf a room .number
+  unfolding answerOf
+  under-read e a c = rw (q, c)
 
 admission-told : {R : Type 0} (E : Encoding R) (row : R) (a : Admission) (room : List ℕ) → admissionNumber a ≢ 0
     → outcomeOf (admissionAnswer E row a) room .number ≡ admissionNumber a
@@ -166,8 +153,8 @@ admission-told E row (Admission.Refused why) room n = refl
 
 pub texts-told : TextsTold
 texts-told settings limits t q text room n = (
-  under-read settings limits t q text room per-encode _ (encoded-admitted inPer t text) ∙ admission-told inPer (inPer .row t) (admitted t text) room n,
-  under-read settings limits t q text room der-encode _ (encoded-admitted inDer t text) ∙ admission-told inDer (inDer .row t) (admitted t text) room n,
+  under-read settings limits t q text room Entry.PerEncode _ (encoded-admitted inPer t text) ∙ admission-told inPer (inPer .row t) (admitted t text) room n,
+  under-read settings limits t q text room Entry.DerEncode _ (encoded-admitted inDer t text) ∙ admission-told inDer (inDer .row t) (admitted t text) room n,
 )
 
 pub bits-told : BitsTold
@@ -178,7 +165,7 @@ bits-told settings limits t q octets room n = go (readOctets (yearRowOf t) (form
         → outcomeOf (perDecode settings limits octets) room .number ≡ valueNumber (valueIn (readOctets (yearRowOf t) (formOf t) octets))
     go (found v rest) r n = absurd (n refl)
     go nothing r n =
-        under-read settings limits t q octets room per-decode _ (Coding.decoded-none per t octets (read-well-formed limits settings t q) (rw r))
+        under-read settings limits t q octets room Entry.PerDecode _ (Coding.decoded-none per t octets (read-well-formed limits settings t q) (rw r))
         ∙ sym (ap (λ (g : Found Bool Value). valueNumber (valueIn g)) r)
 
 judgement-told : (c : Answer) (j : Judgement) (room : List ℕ) → judgementNumber j ≢ 0 → outcomeOf (answerWith c j) room .number ≡ judgementNumber j
@@ -189,10 +176,10 @@ judgement-told c (Judgement.Refused why) room n = refl
 pub values-told : ValuesTold
 values-told settings limits t q octets room v n = (
   λ r.
-      under-read settings limits t q octets room per-decode _ (Coding.decoded-judged per t octets k v r ∙ judged-as inPer t v _)
+      under-read settings limits t q octets room Entry.PerDecode _ (Coding.decoded-judged per t octets k v r ∙ judged-as inPer t v _)
       ∙ judgement-told _ (judged t v) room n,
   λ r.
-      under-read settings limits t q octets room der-decode _ (Coding.decoded-judged der t octets k v r ∙ judged-as inDer t v _)
+      under-read settings limits t q octets room Entry.DerDecode _ (Coding.decoded-judged der t octets k v r ∙ judged-as inDer t v _)
       ∙ judgement-told _ (judged t v) room n,
 )
   where

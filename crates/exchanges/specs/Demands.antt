@@ -29,8 +29,9 @@ use Rattle.kinds.specs.Kinds.{Kind, holds}
 use Rattle.per.specs.Per.{per}
 use Rattle.der.specs.Der.{der}
 use Rattle.der.specs.Elements.{contentsOf, tagOf}
-use Rattle.exchanges.specs.Coding.{derDecode, derEncode, perDecode, perEncode}
+use Rattle.exchanges.specs.Coding.{answerOf, derDecode, derEncode, perDecode, perEncode}
 use Rattle.exchanges.specs.Limits.{limitsGiven, limitsNumber, underLimits}
+use Rattle.exchanges.specs.declared.entries.Entry.{Entry}
 use Rattle.exchanges.specs.declared.limits.GivenLimits.{GivenLimits}
 
 -- ---- what is said of a call
@@ -57,20 +58,7 @@ pub record Refused (answer : Answer) (room : List ℕ) (number : ℕ) : Type 0 w
 abbrev pub sent : Answer → List ℕ → List ℕ
 sent answer room = take (outcomeOf answer room .length .count) (roomOf answer room)
 
--- The entry points, and what each answers to a type's text, its limits and an input.
-pub data Entry : Type 0 where
-  per-encode : Entry
-  per-decode : Entry
-  der-encode : Entry
-  der-decode : Entry
-
-abbrev pub answerOf : Entry → List ℕ → Limits → List ℕ → Answer
-answerOf per-encode = perEncode
-answerOf per-decode = perDecode
-answerOf der-encode = derEncode
-answerOf der-decode = derDecode
-
--- The same from C, with the limits of the header's struct.
+-- What an entry point answers from C, with the limits of the header's struct.
 abbrev pub answerInC : Entry → List ℕ → GivenLimits → List ℕ → Answer
 answerInC e settings limits input = underLimits (limitsGiven limits) λ l. answerOf e settings l input
 
@@ -226,10 +214,10 @@ pub record Given (Why : ℕ → Type 0) (number : ℕ) : Type 0 where
   pub exactly : (n : ℕ) → Why n → ((m : ℕ) → 1 ≤ m → m < n → Why m → ⊥) → number ≡ n
 
 abbrev pub CauseAt : Entry → List ℕ → Limits → List ℕ → List ℕ → ℕ → Type 0
-CauseAt per-encode settings limits input room n = Cause per encodes settings limits input room n
-CauseAt per-decode settings limits input room n = Cause per decodes settings limits input room n
-CauseAt der-encode settings limits input room n = Cause der encodes settings limits input room n
-CauseAt der-decode settings limits input room n = Cause der decodes settings limits input room n
+CauseAt Entry.PerEncode settings limits input room n = Cause per encodes settings limits input room n
+CauseAt Entry.PerDecode settings limits input room n = Cause per decodes settings limits input room n
+CauseAt Entry.DerEncode settings limits input room n = Cause der encodes settings limits input room n
+CauseAt Entry.DerDecode settings limits input room n = Cause der decodes settings limits input room n
 
 -- "Each is given exactly then. When several hold, the lowest number is given."
 abbrev pub SevenNumbers : Type 0

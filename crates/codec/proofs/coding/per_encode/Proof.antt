@@ -1,59 +1,16 @@
--- `coding::per_encode` meets its contract: the type's refusal, or what is answered under the type.
-use mathlib.Core.Path.{_∙_, refl, sym}
-use Rattle.answers.specs.Outcomes.{outcomeOf, roomOf}
-use Rattle.exchanges.specs.Coding.{perEncode}
+-- `coding::per_encode` meets its contract: it is one of the entry points.
 use borrow.Author.Needs.{needs}
 use Rattle.codec.proofs.coding.per_encode.Statement.{statement}
 use Rattle.codec.proofs.coding.per_encode.Tie as tie
 
-read-type-requires : tie.Need-read-type-requires
-read-type-requires c κs = tt
-
-enum-known-read : tie.Need-enum-known-read
-enum-known-read c = search needs
-
-encode-requires : tie.Need-encode-requires
-encode-requires c κs = tt
-
-enum-told : tie.Need-enum-told
-enum-told c = search needs
-
-refused-requires : tie.Need-refused-requires
-refused-requires c κs = tt
-
-enum-told-2 : tie.Need-enum-told-2
-enum-told-2 c = search needs
-
-refused-requires-2 : tie.Need-refused-requires-2
-refused-requires-2 c κs = tt
+answer-requires : tie.Need-answer-requires
+answer-requires c κs = search needs
 
 same-length : tie.Need-same-length
 same-length c = search needs
 
 returns : tie.Need-returns
-unfolding perEncode
-returns c = rw (sym (c .before .before .before .before .before .before .before .read-type .ensures) ∙ c .before .before .before .before .before .read .given .1) (c .before .before .encode .ensures)
-
-returns-2 : tie.Need-returns-2
-unfolding perEncode outcomeOf roomOf
-returns-2 c = rw (sym (c .before .before .before .read-type .ensures) ∙ c .before .enum-told .given .1) (c .refused .ensures, refl)
-
-returns-3 : tie.Need-returns-3
-unfolding perEncode outcomeOf roomOf
-returns-3 c = rw (sym (c .before .before .before .read-type .ensures) ∙ c .before .enum-told2 .given .1) (c .refused2 .ensures, refl)
+returns c = c .before .before .answer .ensures
 
 pub per-encode-spec : {M : Type 1} → statement M
-per-encode-spec =
-    tie.close
-    (tie.spec
-    read-type-requires
-    enum-known-read
-    encode-requires
-    enum-told
-    refused-requires
-    enum-told-2
-    refused-requires-2
-    same-length
-    returns
-    returns-2
-    returns-3)
+per-encode-spec = tie.close (tie.spec answer-requires same-length returns)
