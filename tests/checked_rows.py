@@ -110,7 +110,7 @@ CODING_LIMITS = {
 DECODERS = {"per": per.decode, "der": der.decode}
 ROOM = 64
 
-LINES = ROOT / "crates/lines/proofs/Laws/Checked.antt"
+LINES = ROOT / "crates/line_replies/proofs/Laws/Checked.antt"
 LINE = re.compile(r'^ +line "([^"]*)" (\d+) "([^"]*)" ∷', re.M)
 
 

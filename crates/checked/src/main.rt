@@ -14,7 +14,7 @@ ghost use mathlib.Core.Path.{_≡_};
 ghost use Prim.Native.Nat.{_+_, _<_, _≤_};
 ghost use lib.ListN.{length};
 ghost use Rattle.answers.specs.Outcomes.{outcomeOf, roomOf};
-ghost use Rattle.lines.specs.Lines.{hexDigit};
+ghost use Rattle.line_replies.specs.Lines.{hexDigit};
 ghost use Rattle.checked.specs.Cases.{answerToWork, largest, limitsOfBounds, windowOf};
 
 // The largest room that is lent.

@@ -9,8 +9,8 @@ use lines::reply;
 use lists::lists::find;
 ghost use Prim.Native.Nat.{_+_, _<_, _≤_};
 ghost use lib.ListN.{length};
-ghost use Rattle.lines.specs.Lines.{longestLine};
-ghost use Rattle.lines.specs.Rooms.{replyCapacity};
+ghost use Rattle.line_replies.specs.Lines.{longestLine};
+ghost use Rattle.line_replies.specs.Rooms.{replyCapacity};
 
 // What is kept between reads: so many octets of an unfinished line at the front of the input's buffer, whether the rest
 // of that line is skipped because it is too long, and how many octets of replies stand in the output's buffer.

@@ -1,4 +1,3 @@
 -- The laws of replies.
 pub mod Hex
 pub mod Replies
-pub mod Checked

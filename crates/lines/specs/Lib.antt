@@ -1,4 +1,2 @@
--- What a reader must believe of the replies to lines.
-pub mod Lines
-pub mod Rooms
+-- What the functions behind a reply promise each other.
 pub mod Steps

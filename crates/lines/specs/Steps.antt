@@ -6,17 +6,24 @@ use lib.Dec.{eqb}
 use lib.ListN.{take}
 use mathlib.Core.Option.{Option, some, none}
 use Rattle.lists.specs.Octets.{bytes}
+use Rattle.exchanges.specs.declared.entries.Entry.{Entry}
 use Rattle.lines.specs.declared.hex.Hex.{Hex}
+use Rattle.lines.specs.declared.replies.Work.{Work}
 
--- The octets that a reader of hex leaves at the front of a buffer, ..
+-- The octets that a reader of hex leaves at the front of a buffer.
 abbrev pub octetsIn : Hex → List ℕ → Option (List ℕ)
 octetsIn (Hex.Length n) buffer = some (take n buffer)
 octetsIn Hex.Bad buffer = none
 
--- .. and how many.
+-- How many they are.
 abbrev pub countIn : Hex → ℕ
 countIn (Hex.Length n) = n
 countIn Hex.Bad = 0
+
+-- The entry point that a work is told to name.
+abbrev pub entryIn : Work → Option Entry
+entryIn (Work.Entry e) = some e
+entryIn Work.Unknown = none
 
 -- The reply to a number, and after 0 to so many octets at the front of a buffer.
 unfoldable pub replyTo : (List ℕ → List ℕ) → ℕ → ℕ → List ℕ → List ℕ

@@ -1,23 +1,21 @@
 // The replies. Each is stored at the front of the room, and its length is answered.
 ghost use mathlib.Core.Path.{_≡_};
-ghost use mathlib.Core.List.{_∷_};
-ghost use Prim.Native.Nat.{_+_, _<_, _≤_};
+ghost use mathlib.Core.List.{_∷_, _++_};
+ghost use Prim.Native.Nat.{_+_, _*_, _<_, _≤_};
 ghost use lib.ListN.{length};
 ghost use Rattle.lists.specs.Octets.{bytes};
 ghost use Rattle.printing.specs.Canonical.{textCapacity};
 ghost use Rattle.printing.specs.Stores.{StoredText};
 ghost use Rattle.types.specs.Types.{noLimits};
-ghost use Rattle.exchanges.specs.Coding.{perEncode, perDecode, derEncode, derDecode};
-ghost use Rattle.lines.specs.Lines.{asText, cutAgain, fromHex, longestLine, ofOctets, answerShown, toHex, unasked, worked};
-ghost use Rattle.lines.specs.Rooms.{replyCapacity, replyLength, roomWith};
-ghost use Rattle.lines.specs.Steps.{replyTo};
+ghost use Rattle.exchanges.specs.Coding.{answerOf};
+ghost use Rattle.line_replies.specs.Lines.{answerShown, cutAgain, entryNamed, givesOctets, inputOf, longestLine, repliedBy, resultShown, unasked, worked};
+ghost use Rattle.line_replies.specs.Rooms.{replyCapacity, replyLength, roomWith};
+ghost use Rattle.lines.specs.Steps.{entryIn, replyTo};
 use crate::hex::Hex;
 use crate::hex::put_hex;
 use crate::hex::read_hex;
-use codec::der_decode;
-use codec::der_encode;
-use codec::per_decode;
-use codec::per_encode;
+use codec::answer;
+use exchanges::Entry;
 use lists::lists::find;
 use lists::words::same;
 use types::Limits;
@@ -70,102 +68,109 @@ fn put_octets(room: &mut [u8], at: usize, octets: &[u8]) -> usize
     place
 }
 
-// The reply to a number, and after 0 to so many octets of the buffer, in hex.
-fn hex_reply(number: u32, count: usize, buffer: &[u8], room: &mut [u8]) -> usize
+// Stores a result from a place of the room on, in hex or as a text, and answers the place after it.
+fn put_result(room: &mut [u8], at: usize, hex: bool, result: &[u8]) -> usize
+    requires { ⌜ at + 2 * length (now result) ≤ length (now room) ⌝ }
+    ensures { λ r. ⌜ StoredText (now (room .entry)) (now (room .exit)) at (resultShown hex (now (result .entry))) r ⌝ }
+    ensures { λ r. ⌜ r ≤ at + 2 * length (now (result .entry)) ⌝ }
+{
+    if hex {
+        return put_hex(room, at, result);
+    }
+    put_octets(room, at, result)
+}
+
+// The reply to a result: 0, and the result in hex or as a text.
+fn result_reply(hex: bool, result: &[u8], room: &mut [u8]) -> usize
+    requires { ⌜ (length (now result) ≤ textCapacity) × (replyCapacity ≤ length (now room)) ⌝ }
+    ensures { λ r. ⌜ StoredText (now (room .entry)) (now (room .exit)) 0 (bytes "0 " ++ resultShown hex (now (result .entry)) ++ bytes "\n") r ⌝ }
+    ensures { λ r. ⌜ r ≤ replyCapacity ⌝ }
+{
+    let start = put_octets(room, 0, b"0 ");
+    let end = put_result(room, start, hex, result);
+    put_octets(room, end, b"\n")
+}
+
+// The reply to a number, and after 0 to so many octets of the buffer.
+fn outcome_reply(hex: bool, number: u32, count: usize, buffer: &[u8], room: &mut [u8]) -> usize
     requires { ⌜ (number ≤ 7) × (count ≤ textCapacity) × (length (now buffer) ≡ textCapacity) × (replyCapacity ≤ length (now room)) ⌝ }
-    ensures { λ r. ⌜ StoredText (now (room .entry)) (now (room .exit)) 0 (replyTo toHex number count (now (buffer .entry))) r ⌝ }
+    ensures { λ r. ⌜ StoredText (now (room .entry)) (now (room .exit)) 0 (replyTo (resultShown hex) number count (now (buffer .entry))) r ⌝ }
     ensures { λ r. ⌜ r ≤ replyCapacity ⌝ }
 {
     if number != 0 {
         return number_reply(number, room);
     }
-    let start = put_octets(room, 0, b"0 ");
-    let end = put_hex(room, start, &buffer[..count]);
-    put_octets(room, end, b"\n")
+    result_reply(hex, &buffer[..count], room)
 }
 
-// The reply to a number, and after 0 to the text of so many octets of the buffer.
-fn text_reply(number: u32, count: usize, buffer: &[u8], room: &mut [u8]) -> usize
-    requires { ⌜ (number ≤ 7) × (count ≤ textCapacity) × (length (now buffer) ≡ textCapacity) × (replyCapacity ≤ length (now room)) ⌝ }
-    ensures { λ r. ⌜ StoredText (now (room .entry)) (now (room .exit)) 0 (replyTo asText number count (now (buffer .entry))) r ⌝ }
-    ensures { λ r. ⌜ r ≤ replyCapacity ⌝ }
+// Whether an entry point takes a text and gives octets.
+fn gives_octets(entry: Entry) -> bool
+    ensures { λ r. ⌜ r ≡ givesOctets entry ⌝ }
 {
-    if number != 0 {
-        return number_reply(number, room);
+    match entry {
+        Entry::PerEncode => true,
+        Entry::PerDecode => false,
+        Entry::DerEncode => true,
+        Entry::DerDecode => false,
     }
-    let start = put_octets(room, 0, b"0 ");
-    let end = put_octets(room, start, &buffer[..count]);
-    put_octets(room, end, b"\n")
 }
 
-// The reply to `per`.
-fn per_reply(settings: &[u8], text: &[u8], room: &mut [u8]) -> usize
+// The reply of an entry point to an input.
+fn answer_reply(entry: Entry, settings: &[u8], input: &[u8], room: &mut [u8]) -> usize
     requires { ⌜ replyCapacity ≤ length (now room) ⌝ }
-    ensures { λ r. ⌜ StoredText (now (room .entry)) (now (room .exit)) 0 (answerShown toHex (perEncode (now (settings .entry)) noLimits (now (text .entry)))) r ⌝ }
+    ensures { λ r. ⌜ StoredText (now (room .entry)) (now (room .exit)) 0 (answerShown (resultShown (givesOctets entry)) (answerOf entry (now (settings .entry)) noLimits (now (input .entry)))) r ⌝ }
     ensures { λ r. ⌜ r ≤ replyCapacity ⌝ }
 {
     let mut buffer = [0u8; TEXT_CAPACITY];
-    let outcome = per_encode(settings, Limits::NONE, text, &mut buffer);
-    hex_reply(outcome.number, outcome.length.count, &buffer, room)
+    let outcome = answer(entry, settings, Limits::NONE, input, &mut buffer);
+    outcome_reply(
+        gives_octets(entry),
+        outcome.number,
+        outcome.length.count,
+        &buffer,
+        room,
+    )
 }
 
-// The reply to `der`.
-fn der_reply(settings: &[u8], text: &[u8], room: &mut [u8]) -> usize
-    requires { ⌜ replyCapacity ≤ length (now room) ⌝ }
-    ensures { λ r. ⌜ StoredText (now (room .entry)) (now (room .exit)) 0 (answerShown toHex (derEncode (now (settings .entry)) noLimits (now (text .entry)))) r ⌝ }
+// The reply of an entry point to an input that is in hex where it is octets.
+fn entry_reply(entry: Entry, settings: &[u8], input: &[u8], room: &mut [u8]) -> usize
+    requires { ⌜ (length (now input) ≤ longestLine) × (replyCapacity ≤ length (now room)) ⌝ }
+    ensures { λ r. ⌜ StoredText (now (room .entry)) (now (room .exit)) 0 (repliedBy entry (now (settings .entry)) (inputOf (givesOctets entry) (now (input .entry)))) r ⌝ }
     ensures { λ r. ⌜ r ≤ replyCapacity ⌝ }
 {
-    let mut buffer = [0u8; TEXT_CAPACITY];
-    let outcome = der_encode(settings, Limits::NONE, text, &mut buffer);
-    hex_reply(outcome.number, outcome.length.count, &buffer, room)
-}
-
-// The reply to octets in unaligned PER.
-fn octets_reply(settings: &[u8], octets: &[u8], room: &mut [u8]) -> usize
-    requires { ⌜ replyCapacity ≤ length (now room) ⌝ }
-    ensures { λ r. ⌜ StoredText (now (room .entry)) (now (room .exit)) 0 (answerShown asText (perDecode (now (settings .entry)) noLimits (now (octets .entry)))) r ⌝ }
-    ensures { λ r. ⌜ r ≤ replyCapacity ⌝ }
-{
-    let mut buffer = [0u8; TEXT_CAPACITY];
-    let outcome = per_decode(settings, Limits::NONE, octets, &mut buffer);
-    text_reply(outcome.number, outcome.length.count, &buffer, room)
-}
-
-// The reply to octets in DER.
-fn element_reply(settings: &[u8], octets: &[u8], room: &mut [u8]) -> usize
-    requires { ⌜ replyCapacity ≤ length (now room) ⌝ }
-    ensures { λ r. ⌜ StoredText (now (room .entry)) (now (room .exit)) 0 (answerShown asText (derDecode (now (settings .entry)) noLimits (now (octets .entry)))) r ⌝ }
-    ensures { λ r. ⌜ r ≤ replyCapacity ⌝ }
-{
-    let mut buffer = [0u8; TEXT_CAPACITY];
-    let outcome = der_decode(settings, Limits::NONE, octets, &mut buffer);
-    text_reply(outcome.number, outcome.length.count, &buffer, room)
-}
-
-// The reply to `unper`.
-fn unper_reply(settings: &[u8], hex: &[u8], room: &mut [u8]) -> usize
-    requires { ⌜ (length (now hex) ≤ longestLine) × (replyCapacity ≤ length (now room)) ⌝ }
-    ensures { λ r. ⌜ StoredText (now (room .entry)) (now (room .exit)) 0 (ofOctets (λ octets. answerShown asText (perDecode (now (settings .entry)) noLimits octets)) (fromHex (now (hex .entry)))) r ⌝ }
-    ensures { λ r. ⌜ r ≤ replyCapacity ⌝ }
-{
+    if gives_octets(entry) {
+        return answer_reply(entry, settings, input, room);
+    }
     let mut buffer = [0u8; HEX_CAPACITY];
-    let Hex::Length(n) = read_hex(hex, &mut buffer) else {
+    let Hex::Length(n) = read_hex(input, &mut buffer) else {
         return unasked_reply(room);
     };
-    octets_reply(settings, &buffer[..n], room)
+    answer_reply(entry, settings, &buffer[..n], room)
 }
 
-// The reply to `under`.
-fn under_reply(settings: &[u8], hex: &[u8], room: &mut [u8]) -> usize
-    requires { ⌜ (length (now hex) ≤ longestLine) × (replyCapacity ≤ length (now room)) ⌝ }
-    ensures { λ r. ⌜ StoredText (now (room .entry)) (now (room .exit)) 0 (ofOctets (λ octets. answerShown asText (derDecode (now (settings .entry)) noLimits octets)) (fromHex (now (hex .entry)))) r ⌝ }
-    ensures { λ r. ⌜ r ≤ replyCapacity ⌝ }
+// What a work names: an entry point, or nothing that is known.
+enum Work {
+    Entry(Entry),
+    Unknown,
+}
+
+// The entry point that a work names.
+fn named(work: &[u8]) -> Work
+    ensures { λ r. ⌜ entryIn r ≡ entryNamed (now (work .entry)) ⌝ }
 {
-    let mut buffer = [0u8; HEX_CAPACITY];
-    let Hex::Length(n) = read_hex(hex, &mut buffer) else {
-        return unasked_reply(room);
-    };
-    element_reply(settings, &buffer[..n], room)
+    if same(work, b"per") {
+        return Work::Entry(Entry::PerEncode);
+    }
+    if same(work, b"der") {
+        return Work::Entry(Entry::DerEncode);
+    }
+    if same(work, b"unper") {
+        return Work::Entry(Entry::PerDecode);
+    }
+    if same(work, b"under") {
+        return Work::Entry(Entry::DerDecode);
+    }
+    Work::Unknown
 }
 
 // The reply to a work, a type's text and an input.
@@ -174,19 +179,10 @@ fn work_reply(work: &[u8], settings: &[u8], input: &[u8], room: &mut [u8]) -> us
     ensures { λ r. ⌜ StoredText (now (room .entry)) (now (room .exit)) 0 (worked (now (work .entry)) (now (settings .entry)) (now (input .entry))) r ⌝ }
     ensures { λ r. ⌜ r ≤ replyCapacity ⌝ }
 {
-    if same(work, b"per") {
-        return per_reply(settings, input, room);
-    }
-    if same(work, b"der") {
-        return der_reply(settings, input, room);
-    }
-    if same(work, b"unper") {
-        return unper_reply(settings, input, room);
-    }
-    if same(work, b"under") {
-        return under_reply(settings, input, room);
-    }
-    unasked_reply(room)
+    let Work::Entry(entry) = named(work) else {
+        return unasked_reply(room);
+    };
+    entry_reply(entry, settings, input, room)
 }
 
 // The reply to a work and what follows the first semicolon.

@@ -1,7 +1,7 @@
 -- `hex_digit` meets its contract.
 use native.Mathlib.Omega.{arith}
 use borrow.Author.Tests.{lt-ltb, le-ltb}
-use Rattle.lines.specs.Lines.{hexDigit}
+use Rattle.line_replies.specs.Lines.{hexDigit}
 use borrow.Author.Needs.{needs}
 use Rattle.checked.proofs.hex_digit.Statement.{statement}
 use Rattle.checked.proofs.hex_digit.Tie as tie

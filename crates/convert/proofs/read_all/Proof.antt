@@ -2,7 +2,7 @@
 use mathlib.Core.Path.{_≡_}
 use Prim.Native.Nat.{_≤_}
 use lib.ListN.{length}
-use Rattle.lines.specs.Lines.{longestLine}
+use Rattle.line_replies.specs.Lines.{longestLine}
 use borrow.Author.Needs.{needs}
 use Rattle.convert.proofs.read_all.Statement.{statement}
 use Rattle.convert.proofs.read_all.Tie as tie

@@ -10,7 +10,7 @@ use lib.ListN.{length, getD, take, drop, set, drop-of-length-le}
 use lib.Seq.{sets, drop-cons, take-suc-set, append-snoc}
 use borrow.Author.Tests.{le-leb, lt-leb, lt-ltb, le-ltb}
 use mathlib.Core.Option.{Option, some, none}
-use Rattle.lines.specs.Lines.{hexDigit, toHex, hexNumber, inFront, fromHex}
+use Rattle.line_replies.specs.Lines.{hexDigit, toHex, hexNumber, inFront, fromHex}
 
 -- An octet is a digit, a capital, a small letter, or stands before, between or behind them.
 module _ (c : ℕ) where

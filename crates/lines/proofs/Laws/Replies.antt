@@ -15,8 +15,8 @@ use Rattle.answers.specs.Outcomes.{Answer, done, refused, outcomeOf, roomOf}
 use Rattle.lists.specs.Lists.{spanTo}
 use Rattle.lists.specs.Octets.{bytes}
 use Rattle.printing.specs.Stores.{StoredText}
-use Rattle.lines.specs.Lines.{longestLine, unasked, answerShown, worked, cutAgain, replyOf}
-use Rattle.lines.specs.Rooms.{replyCapacity, replyLength, roomWith}
+use Rattle.line_replies.specs.Lines.{longestLine, unasked, answerShown, worked, cutAgain, replyOf}
+use Rattle.line_replies.specs.Rooms.{replyCapacity, replyLength, roomWith}
 use Rattle.lines.specs.Steps.{replyTo}
 use Rattle.answers.proofs.Laws.Outcomes.{Told, given, withheld, told, number-range, enough, none}
 use Rattle.printing.proofs.Laws.Stores.{sets-front}

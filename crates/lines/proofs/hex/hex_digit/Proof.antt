@@ -1,7 +1,7 @@
 -- `hex::hex_digit` meets its contract.
 use native.Mathlib.Omega.{arith}
 use borrow.Author.Tests.{lt-ltb, le-ltb}
-use Rattle.lines.specs.Lines.{hexDigit}
+use Rattle.line_replies.specs.Lines.{hexDigit}
 use borrow.Author.Needs.{needs}
 use Rattle.lines.proofs.hex.hex_digit.Statement.{statement}
 use Rattle.lines.proofs.hex.hex_digit.Tie as tie

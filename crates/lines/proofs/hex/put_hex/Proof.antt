@@ -5,7 +5,7 @@ use Prim.Native.Nat.{_+_, _*_, _-_, _≤_}
 use native.Mathlib.Omega.{arith}
 use lib.ListN.{length, drop, length-set}
 use lib.Seq.{sets}
-use Rattle.lines.specs.Lines.{toHex}
+use Rattle.line_replies.specs.Lines.{toHex}
 use Rattle.lines.proofs.Laws.Hex.{pair-put, hex-length, hex-none}
 use borrow.Author.Needs.{needs}
 use Rattle.lines.proofs.hex.put_hex.Statement.{statement}

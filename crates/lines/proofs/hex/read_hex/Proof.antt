@@ -3,7 +3,7 @@ use mathlib.Core.Path.{_≡_, _∙_, ap, refl, sym}
 use Prim.Native.Nat.{_*_, _-_, _≤_}
 use native.Mathlib.Omega.{arith}
 use lib.ListN.{length, drop, take, length-set}
-use Rattle.lines.specs.Lines.{fromHex}
+use Rattle.line_replies.specs.Lines.{fromHex}
 use Rattle.lines.proofs.Laws.Hex.{behind, behind-none, pair-read, first-bad, second-bad, half-left, none-left}
 use borrow.Author.Needs.{needs}
 use Rattle.lines.proofs.hex.read_hex.Statement.{statement}

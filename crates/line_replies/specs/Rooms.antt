@@ -4,7 +4,7 @@ use mathlib.Core.Bool.{cond}
 use mathlib.Core.List.{List, _++_}
 use lib.Dec.{leb}
 use lib.ListN.{length, drop}
-use Rattle.lines.specs.Lines.{replyOf}
+use Rattle.line_replies.specs.Lines.{replyOf}
 
 -- How many octets a room for replies has: the longest reply, and slack.
 abbrev pub replyCapacity : ℕ

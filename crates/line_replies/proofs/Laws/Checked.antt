@@ -33,10 +33,10 @@ use Rattle.rows.specs.Readings.{differenceAt, natural, readChoice, readClock, r
 use Rattle.kinds.specs.Coding.{compared, decoded, encoded, judgedAs, judgedOctets, judgedText}
 use Rattle.per.specs.Per.{countOf, encodingOf}
 use Rattle.answers.specs.Counts.{octetsFor}
-use Rattle.exchanges.specs.Coding.{derDecode, derEncode, perDecode, perEncode}
+use Rattle.exchanges.specs.Coding.{answerOf}
 use Rattle.der.specs.Elements.{contentsOf, element, elementOf, without}
 use Rattle.der.specs.Readings.{allDigits, digitsOnly, readElement, separated}
-use Rattle.lines.specs.Lines.{cutAgain, fromHex, hexDigit, hexNumber, replyOf, toHex, worked}
+use Rattle.line_replies.specs.Lines.{cutAgain, entryNamed, fromHex, hexDigit, hexNumber, replyOf, toHex, worked}
 
 -- a line with so many zeros behind it, and its reply
 data Row : Type 0 where
@@ -90,7 +90,7 @@ rows =
     []
 
 allRight : List Row → Bool
-unfolding upTo quotient remainder divisible monthLengthOf daysOfYears newYear weekOf weekOneOf weeksOf astronomicalOf yearAt leapOf yearLengthOf putAfter putDate getWeek getAfter getDate putDigits getDigits getField leading render getValue readUpTo putClock getAfterHours getClock putFraction getFraction putZone getMinutes getDifference getZone putTime getTime sizeIn yearDigits yearText signedFits getSigned getYear splitOn addPair addPairs datedList timedList complete completed listOf eqList placeFrom fractionNumber pairOf dateAt clockAt zoneAt listsOf sameButYear yearFamily oneRow equalLists allOf distinct usable member yearsOf timeAt listType joined typeOf placed limitedTo wellFormed existsClock existsFraction existsDifference existsTime sameDateForm sameTimeForm between admitsDate admitsTime inType bitsOf numberIn packed octetsOf unpacked half within fewest twos fromTwos binaryDigits width fieldBits layout fieldWidth bitCount _>>=_ aRanged aFree require readBits readRanged readFree run otherYear choiceOfYear yearFields dayFields dateFields clockFields longFraction fractionFields hoursField differenceFields zoneFields timeFields fieldsOf readChoice readYear readDay readDate readClock natural readExtended readFraction readMinutes differenceAt readZone readTime readValue readOctets judgedAs judgedText encoded compared judgedOctets decoded encodingOf countOf octetsFor spanTo perEncode perDecode derEncode derDecode without contentsOf element elementOf allDigits digitsOnly separated readElement hexDigit toHex hexNumber fromHex worked cutAgain replyOf
+unfolding upTo quotient remainder divisible monthLengthOf daysOfYears newYear weekOf weekOneOf weeksOf astronomicalOf yearAt leapOf yearLengthOf putAfter putDate getWeek getAfter getDate putDigits getDigits getField leading render getValue readUpTo putClock getAfterHours getClock putFraction getFraction putZone getMinutes getDifference getZone putTime getTime sizeIn yearDigits yearText signedFits getSigned getYear splitOn addPair addPairs datedList timedList complete completed listOf eqList placeFrom fractionNumber pairOf dateAt clockAt zoneAt listsOf sameButYear yearFamily oneRow equalLists allOf distinct usable member yearsOf timeAt listType joined typeOf placed limitedTo wellFormed existsClock existsFraction existsDifference existsTime sameDateForm sameTimeForm between admitsDate admitsTime inType bitsOf numberIn packed octetsOf unpacked half within fewest twos fromTwos binaryDigits width fieldBits layout fieldWidth bitCount _>>=_ aRanged aFree require readBits readRanged readFree run otherYear choiceOfYear yearFields dayFields dateFields clockFields longFraction fractionFields hoursField differenceFields zoneFields timeFields fieldsOf readChoice readYear readDay readDate readClock natural readExtended readFraction readMinutes differenceAt readZone readTime readValue readOctets judgedAs judgedText encoded compared judgedOctets decoded encodingOf countOf octetsFor spanTo without contentsOf element elementOf allDigits digitsOnly separated readElement hexDigit toHex hexNumber fromHex worked cutAgain replyOf answerOf entryNamed
 allRight [] = true
 allRight (line text zeros reply ∷ l) =
     eqList (replyOf (bytes text ++ replicate zeros 48)) (bytes reply ++ bytes "\n") && allRight l

@@ -2,7 +2,7 @@
 -- hex or text; a line with fewer than two semicolons, an unknown work, hex input that isn't whole pairs of hex digits, or more
 -- than 1,024 octets prints `?`."
 use Prim.Native.Nat.{ℕ, _+_, _-_, _*_, _/_, _%_}
-use mathlib.Core.Bool.{_&&_, cond}
+use mathlib.Core.Bool.{Bool, true, false, _&&_, cond}
 use mathlib.Core.List.{List, [], _∷_, _++_}
 use lib.Dec.{leb, ltb}
 use lib.ListN.{length, take, drop}
@@ -12,7 +12,8 @@ use Rattle.lists.specs.Lists.{spanTo}
 use Rattle.lists.specs.Octets.{bytes, eqList}
 use mathlib.Core.Option.{Option, some, none}
 use Rattle.types.specs.Types.{noLimits}
-use Rattle.exchanges.specs.Coding.{perEncode, perDecode, derEncode, derDecode}
+use Rattle.exchanges.specs.Coding.{answerOf}
+use Rattle.exchanges.specs.declared.entries.Entry.{Entry}
 
 -- "more than 1,024 octets prints `?`": a line without its newline.
 abbrev pub longestLine : ℕ
@@ -54,22 +55,44 @@ abbrev pub answerShown : (List ℕ → List ℕ) → Answer → List ℕ
 answerShown show (done result bits) = bytes "0 " ++ show result ++ bytes "\n"
 answerShown show (refused why) = (48 + numberOf why) ∷ bytes "\n"
 
-abbrev pub asText : List ℕ → List ℕ
-asText text = text
+-- "work per, der, unper or under"
+unfoldable pub entryNamed : List ℕ → Option Entry
+entryNamed work =
+    cond (eqList work (bytes "per")) (some Entry.PerEncode)
+    (cond (eqList work (bytes "der")) (some Entry.DerEncode)
+    (cond (eqList work (bytes "unper")) (some Entry.PerDecode)
+    (cond (eqList work (bytes "under")) (some Entry.DerDecode) none)))
 
--- Octets that are given in hex.
-abbrev pub ofOctets : (List ℕ → List ℕ) → Option (List ℕ) → List ℕ
-ofOctets reply (some octets) = reply octets
-ofOctets reply none = unasked
+-- Whether an entry point takes a text and gives octets.
+abbrev pub givesOctets : Entry → Bool
+givesOctets Entry.PerEncode = true
+givesOctets Entry.PerDecode = false
+givesOctets Entry.DerEncode = true
+givesOctets Entry.DerDecode = false
 
--- "work per, der, unper or under; hex input for the last two"
+-- "hex input for the last two"
+abbrev pub inputOf : Bool → List ℕ → Option (List ℕ)
+inputOf true input = some input
+inputOf false input = fromHex input
+
+-- "the hex or text"
+abbrev pub resultShown : Bool → List ℕ → List ℕ
+resultShown true octets = toHex octets
+resultShown false text = text
+
+-- The reply of an entry point, where there is an input.
+abbrev pub repliedBy : Entry → List ℕ → Option (List ℕ) → List ℕ
+repliedBy e settings (some input) = answerShown (resultShown (givesOctets e)) (answerOf e settings noLimits input)
+repliedBy e settings none = unasked
+
+-- The reply to a type's text and an input, where an entry point is named.
+abbrev pub askedOf : Option Entry → List ℕ → List ℕ → List ℕ
+askedOf (some e) settings input = repliedBy e settings (inputOf (givesOctets e) input)
+askedOf none settings input = unasked
+
+-- The reply to a work, a type's text and an input.
 unfoldable pub worked : List ℕ → List ℕ → List ℕ → List ℕ
-worked work settings input =
-    cond (eqList work (bytes "per")) (answerShown toHex (perEncode settings noLimits input))
-    (cond (eqList work (bytes "der")) (answerShown toHex (derEncode settings noLimits input))
-    (cond (eqList work (bytes "unper")) (ofOctets (λ octets. answerShown asText (perDecode settings noLimits octets)) (fromHex input))
-    (cond (eqList work (bytes "under")) (ofOctets (λ octets. answerShown asText (derDecode settings noLimits octets)) (fromHex input))
-    unasked)))
+worked work settings input = askedOf (entryNamed work) settings input
 
 -- What follows the first semicolon, cut at its own first one.
 unfoldable pub cutAgain : List ℕ → List ℕ → List ℕ

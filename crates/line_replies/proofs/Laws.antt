@@ -1,0 +1,2 @@
+-- Lines with their replies.
+pub mod Checked
