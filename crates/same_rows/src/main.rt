@@ -15,26 +15,25 @@ use types::same_rows;
 ghost use mathlib.Core.Path.{_≡_};
 ghost use lib.ListN.{length};
 
-// The limits of a menu's octet, or that the menu has none such.
-enum Choice {
-    Limits(Limits),
-    Unknown,
-}
-
 // Limits with a window of years, and whether hour 24 is allowed.
-fn years(lowest: i32, highest: i32, hour24: bool) -> Choice {
+fn years(lowest: i32, highest: i32, hour24: bool) -> Limits {
     let window = Window::Within(Year::of(lowest), Year::of(highest));
-    Choice::Limits(Limits { window, hour24 })
+    Limits { window, hour24 }
 }
 
 // Limits without a window.
-fn any_year(hour24: bool) -> Choice {
+fn any_year(hour24: bool) -> Limits {
     let window = Window::Every;
-    Choice::Limits(Limits { window, hour24 })
+    Limits { window, hour24 }
 }
 
-// The menu.
-fn limits_of(octet: u8) -> Choice {
+// Whether an octet is on the menu.
+fn on_menu(octet: u8) -> bool {
+    b'0' <= octet && octet <= b'9'
+}
+
+// The limits of the menu's octets.
+fn limits_of(octet: u8) -> Limits {
     match octet {
         b'0' => any_year(true),
         b'1' => years(2000, 2010, true),
@@ -45,8 +44,7 @@ fn limits_of(octet: u8) -> Choice {
         b'6' => years(0, 0, true),
         b'7' => years(-12000, 12000, true),
         b'8' => any_year(false),
-        b'9' => years(2000, 2010, false),
-        _ => Choice::Unknown,
+        _ => years(2000, 2010, false),
     }
 }
 
@@ -55,31 +53,24 @@ fn write(octets: &[u8]) {
     io::write_all(STDOUT_FILENO, octets);
 }
 
-// A number of fraction digits, after a space.
-fn print_digits(t: Type) {
-    write(b" ");
-    io::print_decimal(STDOUT_FILENO, t.fraction_digits() as u64);
-}
-
 // The reply on two types.
 fn types_reply(a: Type, b: Type) {
     if same_rows(a, b) {
-        write(b"0 same");
+        write(b"0 same ");
     } else {
-        write(b"0 other");
+        write(b"0 other ");
     }
-    print_digits(a);
-    print_digits(b);
+    io::print_decimal(STDOUT_FILENO, a.fraction_digits() as u64);
+    write(b" ");
+    io::print_decimal(STDOUT_FILENO, b.fraction_digits() as u64);
     write(b"\n");
 }
 
-// The reply on a type and a second type's text under its limits.
-fn second_reply(a: Type, limits: Limits, settings: &[u8]) {
-    let read = read_type(settings, limits);
+// The reply on what is no type.
+fn refusal_reply(read: TypeRead) {
     match read {
-        TypeRead::Type(b) => types_reply(a, b),
-        TypeRead::Unreadable => write(b"1\n"),
         TypeRead::NoRow => write(b"2\n"),
+        _ => write(b"1\n"),
     }
 }
 
@@ -89,23 +80,23 @@ fn texts_reply(a: Limits, b: Limits, texts: &[u8]) {
     if texts.len() <= end {
         return write(b"?\n");
     }
-    let read = read_type(&texts[0..end], a);
-    match read {
-        TypeRead::Type(t) => second_reply(t, b, &texts[end + 1..]),
-        TypeRead::Unreadable => write(b"1\n"),
-        TypeRead::NoRow => write(b"2\n"),
-    }
+    let first = read_type(&texts[0..end], a);
+    let TypeRead::Type(t) = first else {
+        return refusal_reply(first);
+    };
+    let second = read_type(&texts[end + 1..], b);
+    let TypeRead::Type(u) = second else {
+        return refusal_reply(second);
+    };
+    types_reply(t, u)
 }
 
 // The reply on two types' texts under the limits of two octets of the menu.
 fn limited_reply(a: u8, b: u8, texts: &[u8]) {
-    let Choice::Limits(first) = limits_of(a) else {
+    if !(on_menu(a) && on_menu(b)) {
         return write(b"?\n");
-    };
-    let Choice::Limits(second) = limits_of(b) else {
-        return write(b"?\n");
-    };
-    texts_reply(first, second, texts)
+    }
+    texts_reply(limits_of(a), limits_of(b), texts)
 }
 
 // The reply to a line.
