@@ -1,7 +1,8 @@
-"""Test lines on values and on codings, and the replies that document 01 settles.
+"""Test lines on values, on rows and on codings, and the replies that document 01 settles.
 
-`lines.py values lines` writes the lines of value_lines.py, `lines.py values replies` reads such lines and writes a reply
-for each; `codings` in place of `values` stands for coding_lines.py. A line ends in a newline, and the last one need not.
+`lines.py values lines` writes the lines of value_lines.py on texts, `lines.py values replies` reads such lines and writes
+a reply for each; `rows` in place of `values` stands for its lines on two types, and `codings` for coding_lines.py. A line
+ends in a newline, and the last one need not.
 """
 
 import sys
@@ -9,7 +10,12 @@ import sys
 import coding_lines
 import value_lines
 
-SUBJECTS = {"values": value_lines, "codings": coding_lines}
+# the lines, and the reply to one
+SUBJECTS = {
+    "values": (value_lines.text_lines, value_lines.reply),
+    "rows": (value_lines.row_lines, value_lines.reply),
+    "codings": (coding_lines.all_lines, coding_lines.reply),
+}
 
 
 def split_lines(octets):
@@ -21,13 +27,14 @@ def split_lines(octets):
 def main():
     """Writes the lines, or the replies to lines from standard input."""
     subject = SUBJECTS.get(sys.argv[1]) if len(sys.argv) == 3 else None
-    if subject and sys.argv[2] == "lines":
-        sys.stdout.buffer.write(b"\n".join(subject.all_lines()))
-    elif subject and sys.argv[2] == "replies":
-        for question in split_lines(sys.stdin.buffer.read()):
-            sys.stdout.buffer.write(subject.reply(question) + b"\n")
-    else:
-        sys.exit("usage: lines.py values|codings lines|replies")
+    if not subject or sys.argv[2] not in ("lines", "replies"):
+        sys.exit("usage: lines.py values|rows|codings lines|replies")
+    all_lines, reply = subject
+    if sys.argv[2] == "lines":
+        sys.stdout.buffer.write(b"\n".join(all_lines()))
+        return
+    for question in split_lines(sys.stdin.buffer.read()):
+        sys.stdout.buffer.write(reply(question) + b"\n")
 
 
 if __name__ == "__main__":

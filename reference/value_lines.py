@@ -702,6 +702,16 @@ def all_lines():
     return list(lines)
 
 
+def row_lines():
+    """The lines that begin with `=`: those that ask about two types, or nearly do."""
+    return [each for each in all_lines() if each.startswith(b"=")]
+
+
+def text_lines():
+    """All other lines: those that ask about a type and a text, or nothing."""
+    return [each for each in all_lines() if not each.startswith(b"=")]
+
+
 def reply_on_text(limits, type_text, text):
     """The number and, after 0, the canonical text."""
     number, canonical = judge(type_text, limits, text)

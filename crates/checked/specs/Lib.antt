@@ -1,2 +1,0 @@
--- What the functions of the program promise.
-pub mod Cases

@@ -1,0 +1,172 @@
+/* Runs checked values, and texts and octets to refuse, through the archive, in rooms that are too short, just long enough and
+ * longer, and prints a line for each call: `WORK;TYPE;LIMITS;INPUT;ROOM = NUMBER LENGTH BITS AFTER`, as reference/checked.py
+ * has them. The cases stand here and there, and neither takes the other's word. ROOM is how many octets were lent, each of
+ * them AA, and AFTER is what they are after the call, in hex. Marked octets lie before the room and behind it, and where one
+ * has changed the line goes on to say so. */
+#include "calls.h"
+
+/* The largest room that is lent, what it holds, and what lies around it. */
+enum { LARGEST = 24, LENT = 0xAA, MARK = 0x5C };
+
+/* The restrictions of the cases. */
+enum bounds { NONE, DECADE, REVERSED, SINGLE, NO_24, DECADE_NO_24 };
+
+static const struct {
+    const char *name;
+    struct anafzir_limits limits;
+} BOUNDS[] = {
+    [NONE] = {"none", {0, 0, 0, 0, 0, 0, 0}},
+    [DECADE] = {"2000..2010", {1, 2000, 2010, 0, 0, 0, 0}},
+    [REVERSED] = {"2010..2000", {1, 2010, 2000, 0, 0, 0, 0}},
+    [SINGLE] = {"-44..-44", {1, -44, -44, 0, 0, 0, 0}},
+    [NO_24] = {"no24", {0, 0, 0, 1, 0, 0, 0}},
+    [DECADE_NO_24] = {"2000..2010,no24", {1, 2000, 2010, 1, 0, 0, 0}},
+};
+
+struct octets {
+    const char *start;
+    size_t count;
+};
+
+/* The octets of a literal, zeros among them too. */
+#define OCTETS(literal) {literal, sizeof(literal) - 1}
+
+/* A value: its text, its octets in PER and its octets in DER, each made of the others. */
+static const struct {
+    const char *type;
+    enum bounds bounds;
+    struct octets text, per, der;
+} GOOD[] = {
+    {"Basic=Date Date=Y Year=Proleptic", NONE, OCTETS("0000"), OCTETS("\xC0\x40\x00"), OCTETS("\x0E\x04" "0000")},
+    {"Basic=Time Time=HMSF4 Local-or-UTC=L", NONE, OCTETS("15:27:46.0999"), OCTETS("\x7B\x77\x3E\x70"),
+     OCTETS("\x0E\x0D" "15:27:46.0999")},
+    {"Basic=Time Time=HMSF4 Local-or-UTC=L", NONE, OCTETS("15:27:46.1000"), OCTETS("\x7B\x77\x40\x80\xFA\x00"),
+     OCTETS("\x0E\x0D" "15:27:46.1000")},
+    {"DATE", NONE, OCTETS("2006-06-13"), OCTETS("\x05\x58"), OCTETS("\x1F\x1F\x08" "20060613")},
+    {"DATE", NONE, OCTETS("1582-01-01"), OCTETS("\xC0\x81\x8B\x80\x00"), OCTETS("\x1F\x1F\x08" "15820101")},
+    {"DATE", DECADE, OCTETS("2000-01-01"), OCTETS("\xBE\xC0\x00"), OCTETS("\x1F\x1F\x08" "20000101")},
+    {"DATE", DECADE, OCTETS("2010-12-31"), OCTETS("\x16\xFC"), OCTETS("\x1F\x1F\x08" "20101231")},
+    {"TIME-OF-DAY", NONE, OCTETS("24:00:00"), OCTETS("\xC0\x00\x00"), OCTETS("\x1F\x20\x06" "240000")},
+    {"TIME-OF-DAY", NO_24, OCTETS("23:59:60"), OCTETS("\xBF\x7E\x00"), OCTETS("\x1F\x20\x06" "235960")},
+    {"DATE-TIME", DECADE_NO_24, OCTETS("2006-06-13T15:27:46"), OCTETS("\x05\x58\xF6\xEE"),
+     OCTETS("\x1F\x21\x0E" "20060613152746")},
+    {"Basic=Date Date=YMD Year=Negative|Basic=Date Date=YMD Year=L5", SINGLE, OCTETS("-0044-03-15"),
+     OCTETS("\x01\xD4\x27\x00"), OCTETS("\x0E\x0B" "-0044-03-15")},
+    {"Basic=Time Time=HM Local-or-UTC=LD", NONE, OCTETS("15:27-05:30"), OCTETS("\x7B\x75\x3A"), OCTETS("\x0E\x0B" "15:27-05:30")},
+};
+
+/* A text that is to be refused, in PER and in DER. */
+static const struct {
+    const char *type;
+    enum bounds bounds;
+    struct octets text;
+} BAD_TEXTS[] = {
+    {"DATE", NONE, OCTETS("1581-12-31")},
+    {"DATE", NONE, OCTETS("2006-02-29")},
+    {"DATE", NONE, OCTETS("1500-02-30")},
+    {"DATE", NONE, OCTETS("")},
+    {"DATE", DECADE, OCTETS("1999-12-31")},
+    {"DATE", DECADE, OCTETS("2011-01-01")},
+    {"DATE", REVERSED, OCTETS("2005-06-13")},
+    {"DATE", REVERSED, OCTETS("2005-02-29")},
+    {"TIME-OF-DAY", NO_24, OCTETS("24:00:00")},
+    {"TIME-OF-DAY", NO_24, OCTETS("24:00:01")},
+    {"TIME-OF-DAY", NONE, OCTETS("24:00:01")},
+    {"TIME-OF-DAY", DECADE, OCTETS("15:27:46")},
+    {"DATE", NO_24, OCTETS("2006-06-13")},
+    {"Basic=Date Date=Y Year=Basic|Basic=Date Date=Y Year=L5", NONE, OCTETS("2006")},
+};
+
+/* Octets that are to be refused. */
+static const struct {
+    int work;
+    const char *type;
+    enum bounds bounds;
+    struct octets octets;
+} BAD_OCTETS[] = {
+    {UNPER, "DATE", DECADE, OCTETS("\x18\x00")},
+    {UNPER, "DATE", REVERSED, OCTETS("\x05\x58")},
+    {UNPER, "TIME-OF-DAY", NO_24, OCTETS("\xC0\x00\x00")},
+    {UNPER, "DATE", NONE, OCTETS("\xC0\x81\x8B\x6F\xC0")},
+    {UNPER, "DATE", NONE, OCTETS("\x05\x58\x00")},
+    {UNPER, "DATE", NONE, OCTETS("\x05")},
+    {UNDER, "DATE", DECADE, OCTETS("\x1F\x1F\x08" "20110101")},
+    {UNDER, "DATE", REVERSED, OCTETS("\x1F\x1F\x08" "20060613")},
+    {UNDER, "TIME-OF-DAY", NO_24, OCTETS("\x1F\x20\x06" "240000")},
+    {UNDER, "DATE", NONE, OCTETS("\x1F\x1F\x08" "15811231")},
+    {UNDER, "DATE", NONE, OCTETS("\x1F\x1F\x08" "20060613\x00")},
+    {UNDER, "DATE", NONE, OCTETS("\x1F\x1F\x08" "2006061")},
+    {UNDER, "Basic=Time Time=HMSF3 Local-or-UTC=L", NONE, OCTETS("\x0E\x0C" "15:27:46,500")},
+    {UNDER, "Basic=Time Time=HM Local-or-UTC=LD", NONE, OCTETS("\x0E\x0B" "15:27+01:00")},
+    {UNDER, "DATE", NONE, OCTETS("\x0E\x0A" "2006-06-13")},
+};
+
+static void print_hex(const uint8_t *octets, size_t count)
+{
+    for (size_t i = 0; i < count; i++)
+        printf("%02X", octets[i]);
+}
+
+/* Whether so many octets are all marks. */
+static int marked(const uint8_t *octets, size_t count)
+{
+    for (size_t i = 0; i < count; i++)
+        if (octets[i] != MARK)
+            return 0;
+    return 1;
+}
+
+/* A call in a room of some size, and its line. */
+static void run(const struct work *work, const char *type, enum bounds bounds, struct octets input, size_t size)
+{
+    uint8_t octets[GUARD + LARGEST + GUARD];
+    uint8_t *room = octets + GUARD;
+    const uint8_t *given = (const uint8_t *)input.start;
+    memset(octets, MARK, sizeof octets);
+    memset(room, LENT, size);
+    struct anafzir_outcome o = work->code((const uint8_t *)type, strlen(type), BOUNDS[bounds].limits, given, input.count, room, size);
+    printf("%s;%s;%s;", work->name, type, BOUNDS[bounds].name);
+    if (work->decodes)
+        print_hex(given, input.count);
+    else
+        printf("%.*s", (int)input.count, input.start);
+    printf(";%zu = %" PRIu32 " %zu %" PRIu32 " ", size, o.number, o.length, o.bits);
+    print_hex(room, size);
+    if (!marked(octets, GUARD) || !marked(room + size, sizeof octets - GUARD - size))
+        printf(", and octets outside the room were changed");
+    putchar('\n');
+}
+
+/* A call whose result has so many octets, in a room too short by one, in one that is just long enough, and in one that is
+ * longer by three. */
+static void run_around(int work, const char *type, enum bounds bounds, struct octets input, size_t count)
+{
+    run(WORKS + work, type, bounds, input, count - 1);
+    run(WORKS + work, type, bounds, input, count);
+    run(WORKS + work, type, bounds, input, count + 3);
+}
+
+/* A call that is to be refused, in three rooms. */
+static void run_bad(int work, const char *type, enum bounds bounds, struct octets input)
+{
+    run(WORKS + work, type, bounds, input, 0);
+    run(WORKS + work, type, bounds, input, 1);
+    run(WORKS + work, type, bounds, input, LARGEST);
+}
+
+int main(void)
+{
+    for (size_t i = 0; i < sizeof GOOD / sizeof *GOOD; i++) {
+        run_around(PER, GOOD[i].type, GOOD[i].bounds, GOOD[i].text, GOOD[i].per.count);
+        run_around(DER, GOOD[i].type, GOOD[i].bounds, GOOD[i].text, GOOD[i].der.count);
+        run_around(UNPER, GOOD[i].type, GOOD[i].bounds, GOOD[i].per, GOOD[i].text.count);
+        run_around(UNDER, GOOD[i].type, GOOD[i].bounds, GOOD[i].der, GOOD[i].text.count);
+    }
+    for (size_t i = 0; i < sizeof BAD_TEXTS / sizeof *BAD_TEXTS; i++) {
+        run_bad(PER, BAD_TEXTS[i].type, BAD_TEXTS[i].bounds, BAD_TEXTS[i].text);
+        run_bad(DER, BAD_TEXTS[i].type, BAD_TEXTS[i].bounds, BAD_TEXTS[i].text);
+    }
+    for (size_t i = 0; i < sizeof BAD_OCTETS / sizeof *BAD_OCTETS; i++)
+        run_bad(BAD_OCTETS[i].work, BAD_OCTETS[i].type, BAD_OCTETS[i].bounds, BAD_OCTETS[i].octets);
+    return 0;
+}
