@@ -1,6 +1,7 @@
 """Makes docs/promises/functions.md from the sources: each public function of a library with its contract, as it stands, and
-the wrong programs that are refused at it or at a function of its crate that it calls. `--check` prints where the file says otherwise,
-and each public function at which nothing is refused and that is not among the exceptions below, and exits 1, or prints nothing."""
+the wrong programs that are refused at it or at a function of its crate that it calls. Prints the public functions at which nothing is
+refused, with the reason; one that has none among the exceptions below is a fault. `--check` makes nothing: it prints each fault, and
+whether the page says otherwise, and exits 1, or prints nothing."""
 
 import re
 import sys
@@ -203,6 +204,7 @@ def main():
     if "--check" not in sys.argv[1:]:
         PAGE.parent.mkdir(exist_ok=True)
         PAGE.write_text(made, "utf-8")
+        print("\n".join(f"{place}::{name}: no wrong program: {EXCEPTIONS[name]}" for place, name in none if name in EXCEPTIONS))
     elif not PAGE.exists() or PAGE.read_text("utf-8") != made:
         bad.append(f"{PAGE.relative_to(ROOT)} is not what python3 tests/functions.py makes")
     print("\n".join(bad), end="\n" if bad else "")
