@@ -5,7 +5,7 @@ use mathlib.Core.List.{List, _∷_, _++_}
 use lib.Dec.{eqb}
 use lib.ListN.{take}
 use mathlib.Core.Option.{Option, some, none}
-use Rattle.lists.specs.Octets.{bytes}
+use Rattle.octets.specs.Octets.{bytes}
 use Rattle.lines.specs.declared.hex.Hex.{Hex}
 
 -- The octets that a reader of hex leaves at the front of a buffer, ..

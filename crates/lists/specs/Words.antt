@@ -6,7 +6,7 @@ use mathlib.Core.Bool.{_&&_, cond}
 use mathlib.Core.List.{List, [], _∷_, _++_}
 use lib.Dec.{eqb, leb}
 use lib.ListN.{length, getD, take}
-use Rattle.lists.specs.Octets.{bytes, eqList}
+use Rattle.octets.specs.Octets.{bytes, eqList}
 use Rattle.lists.specs.declared.words.Pair.{Pair}
 
 -- The place of a text among words that are counted from k, or 0 where it is none of them.

@@ -1,8 +1,8 @@
 ghost use mathlib.Core.Path.{_≡_};
 ghost use Prim.Native.Nat.{_<_};
 ghost use lib.ListN.{length};
-ghost use Rattle.lists.specs.Octets.{eqList};
 ghost use Rattle.lists.specs.Words.{Place, clockWords, firstNumber, fractionNumber, pairOf, placeIn};
+use octets::same;
 
 // The places of the properties.
 pub const BASIC: usize = 0;
@@ -33,23 +33,6 @@ const ZONE_WORDS: [u8; 46] = *b"\x0ELocal-or-UTC=L\x0ELocal-or-UTC=Z\x0FLocal-or
 pub struct Pair {
     pub property: usize,
     pub setting: u32,
-}
-
-// Whether two slices hold the same octets.
-pub fn same(a: &[u8], b: &[u8]) -> bool
-    ensures { λ r. ⌜ r ≡ eqList (now (a .entry)) (now (b .entry)) ⌝ }
-{
-    if a.len() != b.len() {
-        return false;
-    }
-    let mut i = 0;
-    while i < a.len() {
-        if a[i] != b[i] {
-            return false;
-        }
-        i += 1;
-    }
-    true
 }
 
 // The place of a text among the words of a table, counted from 1, or 0 where it is none of them. In a table each word

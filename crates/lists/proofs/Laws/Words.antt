@@ -1,6 +1,6 @@
 -- The place of a text among words.
 use mathlib.Core.Path.{_≡_, refl, sym, ap, _∙_}
-use mathlib.Core.Bool.{Bool, true, false, cond}
+use mathlib.Core.Bool.{true, false}
 use mathlib.Core.List.{List, [], _∷_, _++_}
 use Prim.Native.Nat.{ℕ, suc, _+_, _-_, _<_, _≤_}
 use Prim.Native.String.{String}
@@ -8,7 +8,8 @@ use native.Mathlib.Numerals.{add-one}
 use native.Mathlib.Omega.{arith}
 use lib.ListN.{length, getD, take, drop, drop-of-length-le, length-append, length-drop}
 use lib.Seq.{take-at, drop-at, drop-cons, drop-drop}
-use Rattle.lists.specs.Octets.{bytes, eqList}
+use Rattle.octets.specs.Octets.{bytes, eqList}
+use Rattle.octets.proofs.Laws.Cases.{cond-le}
 use Rattle.lists.specs.Words.{counted, placeFrom, placeIn}
 
 -- What a table holds from a place on: words that are counted from k, among which the text has the place n.
@@ -73,11 +74,6 @@ module _ {t l : List ℕ} {at k n : ℕ} (w : Left t l at k n) where
         let q : eqList l (bytes (f .word)) ≡ false = rw (f .octets) at e in
         let m : placeFrom k (f .word ∷ f .others) l ≡ placeFrom (k + 1) (f .others) l = rw (q, add-one) in
         record { words = f .others; rest = f .after; place = w .place ∙ ap (λ (ws : List String). placeFrom k ws l) (f .split) ∙ m }
-
--- What bounds both cases bounds the choice.
-pub cond-le : (t : Bool) (a b n : ℕ) → a ≤ n → b ≤ n → cond t a b ≤ n
-cond-le true a b n h k = h
-cond-le false a b n h k = k
 
 -- No place lies behind the words.
 place-le : (k : ℕ) (ws : List String) (l : List ℕ) → placeFrom (suc k) ws l ≤ k + length ws
