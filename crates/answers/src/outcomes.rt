@@ -1,11 +1,9 @@
 ghost use mathlib.Core.Path.{_≡_};
-ghost use mathlib.Core.List.{_++_};
-ghost use Prim.Native.Nat.{_≤_};
-ghost use lib.ListN.{length, drop};
 ghost use Rattle.answers.specs.Outcomes.{done, refusal, outcomeOf, roomOf};
 use crate::counts::Bits;
 use crate::counts::Octets;
 use crate::refusals::Refusal;
+use octets::put_octets;
 
 // What every entry point returns: 0 or the number of a refusal, the bit count, and the result's length.
 #[repr(C)]
@@ -28,18 +26,6 @@ impl Outcome {
     }
 }
 
-// Copies octets to the front of the room.
-fn copy_front(octets: &[u8], room: &mut [u8])
-    requires { ⌜ length (now octets) ≤ length (now room) ⌝ }
-    ensures { λ _. ⌜ now (room .exit) ≡ now (octets .entry) ++ drop (length (now (octets .entry))) (now (room .entry)) ⌝ }
-{
-    let mut i = 0;
-    while i < octets.len() {
-        room[i] = octets[i];
-        i += 1;
-    }
-}
-
 // Puts a result at the front of the lent room, or refuses where the room is shorter.
 pub fn deliver(octets: &[u8], bits: Bits, room: &mut [u8]) -> Outcome
     ensures { λ r. ⌜ r ≡ outcomeOf (done (now (octets .entry)) bits) (now (room .entry)) ⌝ }
@@ -49,7 +35,7 @@ pub fn deliver(octets: &[u8], bits: Bits, room: &mut [u8]) -> Outcome
     if room.len() < count {
         return Outcome::refused(Refusal::Room);
     }
-    copy_front(octets, room);
+    put_octets(room, 0, octets);
     Outcome {
         number: 0,
         bits,

@@ -1,5 +1,4 @@
 -- The calendar's laws. The crates above cite these and the functions' promises, and open no definition.
-pub mod Bools
 pub mod Integers
 pub mod Years
 pub mod Days

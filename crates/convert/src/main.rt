@@ -6,7 +6,7 @@ use libc::STDOUT_FILENO;
 use lines::LONGEST;
 use lines::REPLY_CAPACITY;
 use lines::reply;
-use lists::lists::find;
+use octets::find;
 ghost use Prim.Native.Nat.{_+_, _<_, _≤_};
 ghost use lib.ListN.{length};
 ghost use Rattle.line_replies.specs.Lines.{longestLine};

@@ -4,7 +4,7 @@ use mathlib.Core.Bool.{Bool, true, _&&_, cond}
 use mathlib.Core.List.{List, [], _∷_, _++_}
 use lib.Dec.{eqb, leb}
 use lib.ListN.{length, take, drop}
-use Rattle.lists.specs.Octets.{eqList}
+use Rattle.octets.specs.Octets.{eqList}
 use Rattle.texts.specs.Octets.{hyphen, colon, letterT, isDigit}
 use Rattle.texts.specs.Texts.{readOf}
 use Rattle.texts.specs.declared.forms.Form.{Form}

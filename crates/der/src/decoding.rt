@@ -10,7 +10,7 @@ use answers::Bits;
 use answers::Outcome;
 use answers::Refusal;
 use answers::deliver;
-use lists::words::same;
+use octets::same;
 use printing::TEXT_CAPACITY;
 use printing::text_into;
 use texts::TextRead;

@@ -4,16 +4,16 @@ ghost use mathlib.Core.Bool.{true, cond};
 ghost use Prim.Native.Nat.{_+_, _≤_};
 ghost use lib.ListN.{length, take};
 ghost use mathlib.Core.Option.{none};
-ghost use Rattle.lists.specs.Octets.{eqList};
-ghost use Rattle.printing.specs.Stores.{StoredText};
+ghost use Rattle.octets.specs.Octets.{eqList};
+ghost use Rattle.octets.specs.Stores.{StoredText};
 ghost use Rattle.texts.specs.Texts.{readOf};
 ghost use Rattle.types.specs.declared.types.Name.{Name};
 ghost use Rattle.encodings.specs.Encodings.{ofText};
 ghost use Rattle.der.specs.Elements.{tagOf};
 ghost use Rattle.der.specs.Readings.{allDigits, digitsOnly, separated, readContents, readLength, readElement};
-use crate::elements::put_contents;
 use crate::elements::tag_length;
-use lists::words::same;
+use octets::put_octets;
+use octets::same;
 use reading::read_text;
 use texts::Form;
 use texts::TextRead;
@@ -46,25 +46,17 @@ fn digits_only(count: usize, octets: &[u8]) -> bool
     all_digits(octets)
 }
 
-// Puts octets from a place on. Under a settings list nothing is left out of them.
-fn put_all(room: &mut [u8], at: usize, octets: &[u8]) -> usize
-    requires { ⌜ at + length (now octets) ≤ length (now room) ⌝ }
-    ensures { λ r. ⌜ StoredText (now (room .entry)) (now (room .exit)) at (now (octets .entry)) r ⌝ }
-{
-    put_contents(room, at, Name::Listed, octets)
-}
-
 // Puts three fields from a place on, with a separator between them, from their digits: so many for the first, two for the
 // second, the rest for the third.
 fn put_fields(room: &mut [u8], at: usize, separator: u8, width: usize, digits: &[u8]) -> usize
     requires { ⌜ (width + 2 ≤ length (now digits)) × (at + (length (now digits) + 2) ≤ length (now room)) ⌝ }
     ensures { λ r. ⌜ StoredText (now (room .entry)) (now (room .exit)) at (separated separator width (now (digits .entry))) r ⌝ }
 {
-    let first = put_all(room, at, &digits[..width]);
+    let first = put_octets(room, at, &digits[..width]);
     room[first] = separator;
-    let second = put_all(room, first + 1, &digits[width..width + 2]);
+    let second = put_octets(room, first + 1, &digits[width..width + 2]);
     room[second] = separator;
-    put_all(room, second + 1, &digits[width + 2..])
+    put_octets(room, second + 1, &digits[width + 2..])
 }
 
 // Reads a date or a time from its digits: 4 or 2 for the first field, and two for each of the others.

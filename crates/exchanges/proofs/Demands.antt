@@ -8,9 +8,10 @@ use Prim.Native.Nat.{ℕ}
 use native.Mathlib.Omega.{arith}
 use lib.Dec.{eqb}
 use borrow.Author.Tests.{eq-eqb, ne-eqb}
+use Rattle.octets.specs.Found.{Found, found, nothing}
+use Rattle.octets.proofs.Laws.Cases.{both}
 use Rattle.answers.specs.Outcomes.{Answer, outcomeOf}
 use Rattle.answers.specs.declared.refusals.Refusal.{Refusal}
-use Rattle.calendar.proofs.Laws.Bools.{both}
 use Rattle.texts.specs.Texts.{readOf, render, textOf}
 use Rattle.texts.specs.declared.values.Value.{Value}
 use Rattle.types.specs.Types.{formOf, typeNumber, wellFormed}
@@ -22,7 +23,6 @@ use Rattle.settings.proofs.Laws.WellFormed.{read-well-formed}
 use Rattle.values.specs.Admission.{admissionNumber, admitted, judged, judgementNumber}
 use Rattle.values.specs.declared.admission.Admission.{Admission}
 use Rattle.values.specs.declared.admission.Judgement.{Judgement}
-use Rattle.fields.specs.Readings.{Found, found, nothing}
 use Rattle.rows.specs.Fields.{yearRowOf}
 use Rattle.rows.specs.Readings.{readOctets}
 use Rattle.rows.proofs.Laws.SameRows.{same-form, same-rows}

@@ -5,20 +5,10 @@ use mathlib.Core.List.{List, [], _∷_}
 use lib.Dec.{leb, ltb, eqb}
 use lib.IntN.{ℤ}
 use lib.ListN.{length, drop}
+use Rattle.octets.specs.Found.{Found, found, nothing, onward}
 use Rattle.fields.specs.Bits.{BitString, numberIn}
 use Rattle.fields.specs.Integers.{within, fromTwos}
 use Rattle.fields.specs.Fields.{Field, Ranged, Free, width}
-
--- What was read, with what is left after it; or nothing.
-pub data Found (X A : Type 0) : Type 0 where
-  found : A → List X → Found X A
-  nothing : Found X A
-
-module _ {X A B : Type 0} where
-  -- What was read is handed on with what is left.
-  abbrev pub onward : Found X A → (A → List X → Found X B) → Found X B
-  onward (found a s) k = k a s
-  onward nothing k = nothing
 
 -- Give a result; read a number of a range, or a free integer, and go on by it; or find nothing.
 pub data Reading (A : Type 0) : Type 0 where

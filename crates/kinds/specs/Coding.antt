@@ -2,9 +2,9 @@
 use Prim.Native.Nat.{ℕ}
 use mathlib.Core.Bool.{cond}
 use mathlib.Core.List.{List}
+use Rattle.octets.specs.Octets.{eqList}
 use Rattle.answers.specs.Outcomes.{Answer, done, refused}
 use Rattle.answers.specs.declared.refusals.Refusal.{Refusal}
-use Rattle.lists.specs.Octets.{eqList}
 use mathlib.Core.Option.{Option, some, none}
 use Rattle.kinds.specs.Kinds.{Kind}
 

@@ -6,10 +6,10 @@ use mathlib.Core.Bool.{Bool, true, false, _&&_, cond}
 use mathlib.Core.List.{List, [], _∷_, _++_}
 use lib.Dec.{leb, ltb}
 use lib.ListN.{length, take, drop}
+use Rattle.octets.specs.Octets.{bytes, eqList}
+use Rattle.octets.specs.Pieces.{spanTo}
 use Rattle.answers.specs.Outcomes.{Answer, done, refused}
 use Rattle.answers.specs.Refusals.{numberOf}
-use Rattle.lists.specs.Lists.{spanTo}
-use Rattle.lists.specs.Octets.{bytes, eqList}
 use mathlib.Core.Option.{Option, some, none}
 use Rattle.types.specs.Types.{noLimits}
 use Rattle.exchanges.specs.Coding.{answerOf}

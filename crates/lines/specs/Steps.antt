@@ -5,7 +5,7 @@ use mathlib.Core.List.{List, _∷_, _++_}
 use lib.Dec.{eqb}
 use lib.ListN.{take}
 use mathlib.Core.Option.{Option, some, none}
-use Rattle.lists.specs.Octets.{bytes}
+use Rattle.octets.specs.Octets.{bytes}
 use Rattle.exchanges.specs.declared.entries.Entry.{Entry}
 use Rattle.lines.specs.declared.hex.Hex.{Hex}
 use Rattle.lines.specs.declared.replies.Work.{Work}

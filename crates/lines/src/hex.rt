@@ -1,7 +1,7 @@
 ghost use mathlib.Core.Path.{_≡_};
 ghost use Prim.Native.Nat.{_+_, _*_, _<_, _≤_};
 ghost use lib.ListN.{length};
-ghost use Rattle.printing.specs.Stores.{StoredText};
+ghost use Rattle.octets.specs.Stores.{StoredText};
 ghost use Rattle.line_replies.specs.Lines.{fromHex, hexDigit, hexNumber, toHex};
 ghost use Rattle.lines.specs.Steps.{countIn, octetsIn};
 

@@ -3,9 +3,9 @@ ghost use mathlib.Core.Path.{_≡_};
 ghost use mathlib.Core.List.{_∷_, _++_};
 ghost use Prim.Native.Nat.{_+_, _*_, _<_, _≤_};
 ghost use lib.ListN.{length};
-ghost use Rattle.lists.specs.Octets.{bytes};
+ghost use Rattle.octets.specs.Octets.{bytes};
+ghost use Rattle.octets.specs.Stores.{StoredText};
 ghost use Rattle.printing.specs.Canonical.{textCapacity};
-ghost use Rattle.printing.specs.Stores.{StoredText};
 ghost use Rattle.types.specs.Types.{noLimits};
 ghost use Rattle.exchanges.specs.Coding.{answerOf};
 ghost use Rattle.line_replies.specs.Lines.{answerShown, cutAgain, entryNamed, givesOctets, inputOf, longestLine, repliedBy, resultShown, unasked, worked};
@@ -16,8 +16,9 @@ use crate::hex::put_hex;
 use crate::hex::read_hex;
 use codec::answer;
 use exchanges::Entry;
-use lists::lists::find;
-use lists::words::same;
+use octets::find;
+use octets::put_octets;
+use octets::same;
 use types::Limits;
 use values::TEXT_CAPACITY;
 
@@ -50,22 +51,6 @@ fn number_reply(number: u32, room: &mut [u8]) -> usize
     room[0] = b'0' + number as u8;
     room[1] = b'\n';
     2
-}
-
-// Stores octets from a place of the room on, and answers the place after them.
-fn put_octets(room: &mut [u8], at: usize, octets: &[u8]) -> usize
-    requires { ⌜ at + length (now octets) ≤ length (now room) ⌝ }
-    ensures { λ r. ⌜ StoredText (now (room .entry)) (now (room .exit)) at (now (octets .entry)) r ⌝ }
-    ensures { λ r. ⌜ r ≡ at + length (now (octets .entry)) ⌝ }
-{
-    let mut place = at;
-    let mut i = 0;
-    while i < octets.len() {
-        room[place] = octets[i];
-        place += 1;
-        i += 1;
-    }
-    place
 }
 
 // Stores a result from a place of the room on, in hex or as a text, and answers the place after it.

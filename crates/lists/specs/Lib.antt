@@ -1,4 +1,3 @@
 -- What a reader must believe of settings lists, in the order of the paper's "What a type is".
-pub mod Octets
 pub mod Words
 pub mod Lists

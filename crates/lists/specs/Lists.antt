@@ -1,27 +1,13 @@
 -- "A list is `Property=Setting` pairs with one space between, in any order, each property at most once (47.10)."
-use Prim.Native.Nat.{ℕ, suc}
+use Prim.Native.Nat.{ℕ}
 use mathlib.Core.Bool.{Bool, true, false, not, _&&_, cond}
 use mathlib.Core.List.{List, [], _∷_}
 use lib.Dec.{eqb, ltb}
 use lib.ListN.{getD, set}
+use Rattle.octets.specs.Pieces.{splitOn}
 use Rattle.lists.specs.Words.{pairOf}
 use Rattle.lists.specs.declared.words.Pair.{Pair}
 use Rattle.lists.specs.declared.lists.Settings.{Settings}
-
--- An octet before the first piece.
-abbrev pub withFirst : ℕ → List (List ℕ) → List (List ℕ)
-withFirst x [] = (x ∷ []) ∷ []
-withFirst x (w ∷ ws) = (x ∷ w) ∷ ws
-
--- The pieces of a text between the octets c: always one more than there are such octets.
-unfoldable pub splitOn : ℕ → List ℕ → List (List ℕ)
-splitOn c [] = [] ∷ []
-splitOn c (x ∷ l) = cond (eqb x c) ([] ∷ splitOn c l) (withFirst x (splitOn c l))
-
--- How many octets stand before the first c.
-unfoldable pub spanTo : ℕ → List ℕ → ℕ
-spanTo c [] = 0
-spanTo c (x ∷ l) = cond (eqb x c) 0 (suc (spanTo c l))
 
 -- The settings of a list: for each of the five properties the number of its setting, 0 where it is missing.
 abbrev pub settings : List ℕ → Settings

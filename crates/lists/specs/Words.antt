@@ -1,11 +1,12 @@
 -- "A list is `Property=Setting` pairs": the words of the base settings.
 use Prim.Native.Nat.{ℕ, suc, _+_, _-_, _*_}
 use Prim.Native.String.{String}
+use mathlib.Core.Path.{_≡_}
 use mathlib.Core.Bool.{_&&_, cond}
-use mathlib.Core.List.{List, [], _∷_}
+use mathlib.Core.List.{List, [], _∷_, _++_}
 use lib.Dec.{eqb, leb}
 use lib.ListN.{length, getD, take}
-use Rattle.lists.specs.Octets.{bytes, eqList}
+use Rattle.octets.specs.Octets.{bytes, eqList}
 use Rattle.lists.specs.declared.words.Pair.{Pair}
 
 -- The place of a text among words that are counted from k, or 0 where it is none of them.
@@ -16,6 +17,15 @@ placeFrom k (w ∷ ws) l = cond (eqList l (bytes w)) k (placeFrom (suc k) ws l)
 -- The same, counted from 1.
 abbrev pub placeIn : List String → List ℕ → ℕ
 placeIn = placeFrom 1
+
+-- The words of a table: the octets of each after their number.
+abbrev pub counted : List String → List ℕ
+counted [] = []
+counted (w ∷ ws) = length (bytes w) ∷ (bytes w ++ counted ws)
+
+-- The place of a text in a table is that among the table's words.
+abbrev pub Place : List ℕ → List ℕ → ℕ → Type 0
+Place t l n = (ws : List String) → t ≡ counted ws → n ≡ placeIn ws l
 
 -- "`Basic`: Date, Time, Date-Time."
 abbrev pub basicWords : List String

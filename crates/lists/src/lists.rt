@@ -1,7 +1,7 @@
 ghost use mathlib.Core.Path.{_≡_};
-ghost use Prim.Native.Nat.{_+_, _<_};
-ghost use lib.ListN.{drop};
-ghost use Rattle.lists.specs.Lists.{addPair, addPairs, complete, completed, datedList, listOf, noneYet, presentIf, settings, spanTo, splitOn, timedList};
+ghost use Prim.Native.Nat.{_<_};
+ghost use Rattle.octets.specs.Pieces.{splitOn};
+ghost use Rattle.lists.specs.Lists.{addPair, addPairs, complete, completed, datedList, listOf, noneYet, presentIf, settings, timedList};
 use crate::words::BASIC;
 use crate::words::DATE;
 use crate::words::Pair;
@@ -9,6 +9,7 @@ use crate::words::TIME;
 use crate::words::YEAR;
 use crate::words::ZONE;
 use crate::words::read_pair;
+use octets::find;
 
 // The settings of one list: for each property, in the order Basic, Date, Year, Time, Local-or-UTC, the number of its
 // setting, 0 where it is missing. A list that is refused is not readable.
@@ -27,20 +28,6 @@ const REFUSED: Settings = Settings {
     readable: false,
     numbers: [0, 0, 0, 0, 0],
 };
-
-// The place of the first such octet from a place on, or the end.
-pub fn find(s: &[u8], from: usize, octet: u8) -> usize
-    ensures { λ r. ⌜ r ≡ from + spanTo octet (drop from (now (s .entry))) ⌝ }
-{
-    let mut i = from;
-    while i < s.len() {
-        if s[i] == octet {
-            return i;
-        }
-        i += 1;
-    }
-    i
-}
 
 // One pair more.
 fn add(list: Settings, pair: Pair) -> Settings

@@ -1,6 +1,8 @@
 ghost use mathlib.Core.Path.{_≡_};
-ghost use Rattle.lists.specs.Octets.{eqList};
-ghost use Rattle.lists.specs.Words.{basicWords, clockWords, dateWords, fractionNumber, fractionWords, firstNumber, pairOf, placeIn, yearWords, zoneWords};
+ghost use Prim.Native.Nat.{_<_};
+ghost use lib.ListN.{length};
+ghost use Rattle.lists.specs.Words.{Place, clockWords, firstNumber, fractionNumber, pairOf, placeIn};
+use octets::same;
 
 // The places of the properties.
 pub const BASIC: usize = 0;
@@ -13,133 +15,45 @@ pub const TIME: usize = 3;
 
 pub const ZONE: usize = 4;
 
+// The words of each property, each after its length.
+const BASIC_WORDS: [u8; 38] = *b"\x0ABasic=Date\x0ABasic=Time\x0FBasic=Date-Time";
+
+const DATE_WORDS: [u8; 49] =
+    *b"\x06Date=Y\x07Date=YM\x08Date=YMD\x07Date=YD\x07Date=YW\x08Date=YWD";
+
+const YEAR_WORDS: [u8; 48] = *b"\x0AYear=Basic\x0EYear=Proleptic\x0DYear=Negative\x07Year=L5";
+
+const CLOCK_WORDS: [u8; 24] = *b"\x06Time=H\x07Time=HM\x08Time=HMS";
+
+const FRACTION_WORDS: [u8; 27] = *b"\x07Time=HF\x08Time=HMF\x09Time=HMSF";
+
+const ZONE_WORDS: [u8; 46] = *b"\x0ELocal-or-UTC=L\x0ELocal-or-UTC=Z\x0FLocal-or-UTC=LD";
+
 // One pair of a list: the place of its property, and the number of its setting, 0 for none.
 pub struct Pair {
     pub property: usize,
     pub setting: u32,
 }
 
-// Whether two slices hold the same octets.
-pub fn same(a: &[u8], b: &[u8]) -> bool
-    ensures { λ r. ⌜ r ≡ eqList (now (a .entry)) (now (b .entry)) ⌝ }
+// The place of a text among the words of a table, counted from 1, or 0 where it is none of them. In a table each word
+// stands after its length.
+fn place_in(table: &[u8], s: &[u8]) -> u32
+    requires { ⌜ length (now table) < 256 ⌝ }
+    ensures { λ r. ⌜ Place (now (table .entry)) (now (s .entry)) r ⌝ }
 {
-    if a.len() != b.len() {
-        return false;
-    }
-    let mut i = 0;
-    while i < a.len() {
-        if a[i] != b[i] {
-            return false;
+    let mut place = 1;
+    let mut at = 0;
+    while at < table.len() {
+        let word = at + 1;
+        let end = word + table[at] as usize;
+        if table.len() < end {
+            return 0;
         }
-        i += 1;
-    }
-    true
-}
-
-// The number of a Basic setting, or 0 for any other text.
-fn basic_word(s: &[u8]) -> u32
-    ensures { λ r. ⌜ r ≡ placeIn basicWords (now (s .entry)) ⌝ }
-{
-    if same(s, b"Basic=Date") {
-        return 1;
-    }
-    if same(s, b"Basic=Time") {
-        return 2;
-    }
-    if same(s, b"Basic=Date-Time") {
-        return 3;
-    }
-    0
-}
-
-// The number of a Date setting, or 0 for any other text.
-fn date_word(s: &[u8]) -> u32
-    ensures { λ r. ⌜ r ≡ placeIn dateWords (now (s .entry)) ⌝ }
-{
-    if same(s, b"Date=Y") {
-        return 1;
-    }
-    if same(s, b"Date=YM") {
-        return 2;
-    }
-    if same(s, b"Date=YMD") {
-        return 3;
-    }
-    if same(s, b"Date=YD") {
-        return 4;
-    }
-    if same(s, b"Date=YW") {
-        return 5;
-    }
-    if same(s, b"Date=YWD") {
-        return 6;
-    }
-    0
-}
-
-// The number of a Year setting, or 0 for any other text.
-fn year_word(s: &[u8]) -> u32
-    ensures { λ r. ⌜ r ≡ placeIn yearWords (now (s .entry)) ⌝ }
-{
-    if same(s, b"Year=Basic") {
-        return 1;
-    }
-    if same(s, b"Year=Proleptic") {
-        return 2;
-    }
-    if same(s, b"Year=Negative") {
-        return 3;
-    }
-    if same(s, b"Year=L5") {
-        return 4;
-    }
-    0
-}
-
-// The number of a Time setting without a fraction, or 0 for any other text.
-fn clock_word(s: &[u8]) -> u32
-    ensures { λ r. ⌜ r ≡ placeIn clockWords (now (s .entry)) ⌝ }
-{
-    if same(s, b"Time=H") {
-        return 1;
-    }
-    if same(s, b"Time=HM") {
-        return 2;
-    }
-    if same(s, b"Time=HMS") {
-        return 3;
-    }
-    0
-}
-
-// The number of a Time setting up to its digit, or 0 for any other text.
-fn fraction_word(s: &[u8]) -> u32
-    ensures { λ r. ⌜ r ≡ placeIn fractionWords (now (s .entry)) ⌝ }
-{
-    if same(s, b"Time=HF") {
-        return 1;
-    }
-    if same(s, b"Time=HMF") {
-        return 2;
-    }
-    if same(s, b"Time=HMSF") {
-        return 3;
-    }
-    0
-}
-
-// The number of a Local-or-UTC setting, or 0 for any other text.
-fn zone_word(s: &[u8]) -> u32
-    ensures { λ r. ⌜ r ≡ placeIn zoneWords (now (s .entry)) ⌝ }
-{
-    if same(s, b"Local-or-UTC=L") {
-        return 1;
-    }
-    if same(s, b"Local-or-UTC=Z") {
-        return 2;
-    }
-    if same(s, b"Local-or-UTC=LD") {
-        return 3;
+        if same(s, &table[word..end]) {
+            return place;
+        }
+        place += 1;
+        at = end;
     }
     0
 }
@@ -160,7 +74,7 @@ fn fraction(s: &[u8]) -> u32
     if b'9' < digit {
         return 0;
     }
-    let word = fraction_word(&s[..last]);
+    let word = place_in(&FRACTION_WORDS, &s[..last]);
     if word == 0 {
         return 0;
     }
@@ -171,7 +85,7 @@ fn fraction(s: &[u8]) -> u32
 fn time_word(s: &[u8]) -> u32
     ensures { λ r. ⌜ r ≡ firstNumber (placeIn clockWords (now (s .entry))) (fractionNumber (now (s .entry))) ⌝ }
 {
-    let clock = clock_word(s);
+    let clock = place_in(&CLOCK_WORDS, s);
     if clock != 0 {
         return clock;
     }
@@ -182,21 +96,21 @@ fn time_word(s: &[u8]) -> u32
 pub fn read_pair(s: &[u8]) -> Pair
     ensures { λ r. ⌜ r ≡ pairOf (now (s .entry)) ⌝ }
 {
-    let basic = basic_word(s);
+    let basic = place_in(&BASIC_WORDS, s);
     if basic != 0 {
         return Pair {
             property: BASIC,
             setting: basic,
         };
     }
-    let date = date_word(s);
+    let date = place_in(&DATE_WORDS, s);
     if date != 0 {
         return Pair {
             property: DATE,
             setting: date,
         };
     }
-    let year = year_word(s);
+    let year = place_in(&YEAR_WORDS, s);
     if year != 0 {
         return Pair {
             property: YEAR,
@@ -212,6 +126,6 @@ pub fn read_pair(s: &[u8]) -> Pair
     }
     Pair {
         property: ZONE,
-        setting: zone_word(s),
+        setting: place_in(&ZONE_WORDS, s),
     }
 }

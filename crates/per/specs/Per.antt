@@ -2,6 +2,7 @@
 use Prim.Native.Nat.{ℕ}
 use mathlib.Core.Bool.{Bool}
 use mathlib.Core.List.{List}
+use Rattle.octets.specs.Found.{Found, found, nothing}
 use Rattle.answers.specs.Outcomes.{Answer}
 use Rattle.answers.specs.declared.counts.Bits.{Bits}
 use Rattle.texts.specs.declared.forms.Form.{Form}
@@ -9,7 +10,6 @@ use Rattle.texts.specs.declared.values.Value.{Value}
 use Rattle.types.specs.declared.types.«Type».{«Type» as Ty}
 use Rattle.fields.specs.Bits.{octetsOf}
 use Rattle.fields.specs.Fields.{layout, bitCount}
-use Rattle.fields.specs.Readings.{Found, found, nothing}
 use Rattle.rows.specs.Fields.{yearRowOf, fieldsOf}
 use Rattle.rows.specs.Readings.{readOctets}
 use Rattle.rows.specs.declared.YearRow.{YearRow}

@@ -8,7 +8,7 @@ ghost use Rattle.per.specs.Per.{per as perKind, encodingOf, countOf, per
 use answers::Outcome;
 use answers::Refusal;
 use answers::deliver;
-use lists::words::same;
+use octets::same;
 use packing::pack;
 use rows::YearRow;
 use texts::Value;

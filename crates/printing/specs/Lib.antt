@@ -1,3 +1,2 @@
 -- What a reader must believe of the canonical text in a lent buffer.
-pub mod Stores
 pub mod Canonical

@@ -4,6 +4,7 @@ use mathlib.Core.Bool.{Bool, true, false, cond}
 use mathlib.Core.List.{List}
 use lib.Dec.{ltb}
 use lib.IntN.{ℤ, pos, negsuc}
+use Rattle.octets.specs.Found.{Found}
 use Rattle.calendar.specs.Years.{yearAt}
 use Rattle.calendar.specs.declared.dates.Date.{Date}
 use Rattle.calendar.specs.declared.years.Year.{Year}
@@ -18,7 +19,7 @@ use Rattle.texts.specs.declared.values.Time.{Time}
 use Rattle.texts.specs.declared.values.Value.{Value}
 use Rattle.texts.specs.declared.values.Zone.{Zone}
 use Rattle.fields.specs.Bits.{unpacked}
-use Rattle.fields.specs.Readings.{Found, Reading, give, refuse, _>>=_, aRanged, aFree, require, run}
+use Rattle.fields.specs.Readings.{Reading, give, refuse, _>>=_, aRanged, aFree, require, run}
 use Rattle.rows.specs.declared.YearRow.{YearRow}
 
 -- The year after its two choice bits; "3: other years", of any number.

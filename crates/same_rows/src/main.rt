@@ -5,7 +5,7 @@
 use calendar::Year;
 use libc::STDIN_FILENO;
 use libc::STDOUT_FILENO;
-use lists::lists::find;
+use octets::find;
 use settings::read_type;
 use types::Limits;
 use types::Type;

@@ -3,7 +3,7 @@ use Prim.Native.Nat.{ℕ, _+_}
 use mathlib.Core.Bool.{Bool, true, false, cond}
 use mathlib.Core.List.{List, [], _∷_, _++_, map, List·Permᴰ}
 use lib.Dec.{eqb}
-use Rattle.lists.specs.Octets.{bytes}
+use Rattle.octets.specs.Octets.{bytes}
 use Rattle.texts.specs.declared.forms.DateForm.{DateForm}
 use Rattle.texts.specs.declared.forms.ClockForm.{ClockForm}
 use Rattle.texts.specs.declared.forms.ZoneForm.{ZoneForm}

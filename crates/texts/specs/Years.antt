@@ -8,7 +8,7 @@ use lib.ListN.{drop}
 use Rattle.calendar.specs.Years.{astronomicalOf, yearAt}
 use Rattle.calendar.specs.declared.years.Year.{Year}
 use Rattle.texts.specs.Octets.{hyphen, plus, firstOctet}
-use Rattle.texts.specs.Reads.{Read, got, bad, handOn}
+use Rattle.octets.specs.Found.{Found, found, nothing, onward}
 use Rattle.texts.specs.Digits.{putDigits, getDigits, leading}
 
 -- How many decimal digits a number has, none for 0; at most f are counted.
@@ -44,13 +44,13 @@ abbrev pub signedYear : Bool → ℕ → ℤ
 signedYear true n = negsuc (n - 1)
 signedYear false n = pos n
 
-unfoldable pub getSigned : ℕ → Bool → List ℕ → Read Year
+unfoldable pub getSigned : ℕ → Bool → List ℕ → Found ℕ Year
 getSigned most below l =
-    handOn (getDigits (leading l) l) λ n r. cond (signedFits most below (leading l) n) (got (yearAt (signedYear below n)) r) bad
+    onward (getDigits (leading l) l) λ n r. cond (signedFits most below (leading l) n) (found (yearAt (signedYear below n)) r) nothing
 
 -- "A year is read as four digits, .. whichever Year the type names", or after a sign.
-unfoldable pub getYear : ℕ → List ℕ → Read Year
+unfoldable pub getYear : ℕ → List ℕ → Found ℕ Year
 getYear most l =
     cond (eqb (firstOctet l) hyphen) (getSigned most true (drop 1 l))
     (cond (eqb (firstOctet l) plus) (getSigned most false (drop 1 l))
-    (handOn (getDigits 4 l) λ n r. got (yearAt (pos n)) r))
+    (onward (getDigits 4 l) λ n r. found (yearAt (pos n)) r))

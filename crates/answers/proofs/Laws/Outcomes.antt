@@ -2,13 +2,11 @@
 use mathlib.Core.Path.{_≡_, refl, sym, ap, _∙_}
 use mathlib.Core.Bool.{Bool, true, false, cond}
 use mathlib.Core.List.{List, [], _∷_, _++_}
-use Prim.Native.Nat.{ℕ, suc, _+_, _≤_, _<_}
-use native.Mathlib.Nat.{le-of-lt}
-use native.Mathlib.Numerals.{add-one}
+use Prim.Native.Nat.{ℕ, _≤_, _<_}
 use native.Mathlib.Omega.{arith}
 use lib.Dec.{leb}
-use lib.ListN.{length, take, drop, getD, set, length-append, length-drop}
-use lib.Seq.{take-suc, drop-cons, set-at, length-take-le, append-snoc, take-append-seam, drop-append-seam}
+use lib.ListN.{length, take, drop, length-append, length-drop}
+use lib.Seq.{take-append-seam, drop-append-seam}
 use borrow.Author.Tests.{le-leb, lt-leb, leb-true, leb-false}
 use Rattle.answers.specs.declared.counts.Bits.{Bits}
 use Rattle.answers.specs.declared.refusals.Refusal.{Refusal}
@@ -131,11 +129,3 @@ module _ (answer : Answer) (room : List ℕ) where
     go : Told answer room → length (roomOf answer room) ≡ length room
     go (given result bits a h o) = rw a (rw (enough result room bits h .1) (simp (length-append, length-drop) (omega arith)))
     go (withheld why o r) = ap length r
-
--- What a copy has done after one octet more.
-pub one-more : (octets room : List ℕ) (i : ℕ) → i < length octets → i < length room
-    → set (take i octets ++ drop i room) i (getD octets i 0) ≡ take (i + 1) octets ++ drop (i + 1) room
-one-more octets room i h k =
-    rw (add-one, take-suc octets i 0 h, drop-cons room i 0 k)
-    (set-at (take i octets) (getD room i 0) (drop (suc i) room) (getD octets i 0) i (length-take-le i octets (le-of-lt h))
-    ∙ sym (append-snoc (take i octets) (getD octets i 0) (drop (suc i) room)))

@@ -7,12 +7,12 @@ use native.Mathlib.Omega.{arith}
 use lib.Dec.{leb, eqb, ltb}
 use lib.IntN.{ℤ}
 use borrow.Author.Tests.{leb-true, eqb-true, eqb-false, ltb-true, ltb-false}
+use Rattle.octets.proofs.Laws.Cases.{both}
 use Rattle.calendar.specs.declared.dates.Date.{Date}
 use Rattle.calendar.specs.Years.{astronomicalOf, leapOf, yearLengthOf}
 use Rattle.calendar.specs.Months.{monthLengthOf}
 use Rattle.calendar.specs.Weeks.{weeksOf}
 use Rattle.calendar.specs.Dates.{upTo, existsOf}
-use Rattle.calendar.proofs.Laws.Bools.{both}
 use Rattle.calendar.proofs.Laws.Months.{no-month-0, no-month-above, month-days}
 use Rattle.calendar.proofs.Laws.Weeks.{fifty-two-or-three}
 

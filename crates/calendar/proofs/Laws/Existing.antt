@@ -3,12 +3,12 @@ use mathlib.Core.Path.{_≡_, refl}
 use mathlib.Core.Bool.{true}
 use Prim.Native.Nat.{ℕ, _≤_}
 use borrow.Author.Tests.{le-leb}
+use Rattle.octets.proofs.Laws.Cases.{both}
 use Rattle.calendar.specs.declared.dates.Date.{Date}
 use Rattle.calendar.specs.Years.{astronomicalOf, yearLengthOf}
 use Rattle.calendar.specs.Months.{monthLengthOf}
 use Rattle.calendar.specs.Weeks.{weeksOf}
 use Rattle.calendar.specs.Dates.{upTo, existsOf}
-use Rattle.calendar.proofs.Laws.Bools.{both}
 use Rattle.calendar.proofs.Laws.Dates.{up-to-true}
 
 -- A number from 1 to the highest.

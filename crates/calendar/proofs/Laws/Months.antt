@@ -8,9 +8,9 @@ use lib.Dec.{leb}
 use lib.IntN.{ℤ}
 use lib.ListN.{length, getD, List·getD-eq-default}
 use borrow.Author.Tests.{leb-true}
+use Rattle.octets.proofs.Laws.Cases.{both}
 use Rattle.calendar.specs.Years.{leapOf, yearLengthOf}
 use Rattle.calendar.specs.Months.{commonRow, leapRow, monthLengthOf}
-use Rattle.calendar.proofs.Laws.Bools.{both}
 
 -- A month's place in its row.
 pub month-at : (y : ℤ) (k : ℕ) → 1 ≤ k → monthLengthOf y k ≡ getD (cond (leapOf y) leapRow commonRow) (k - 1) 0

@@ -7,10 +7,10 @@ use mathlib.Core.Option.{Option, some, none}
 use Prim.Native.Nat.{ℕ}
 use Prim.Native.String.{String}
 use lib.IntN.{pos, negsuc}
+use Rattle.octets.specs.Octets.{eqList}
 use Rattle.answers.proofs.Laws.Quoted.{hex}
 use Rattle.calendar.specs.Years.{astronomicalOf, yearAt}
 use Rattle.calendar.specs.declared.dates.Date.{Date}
-use Rattle.lists.specs.Octets.{eqList}
 use Rattle.texts.specs.Dates.{getAfter, getDate, getWeek, putAfter, putDate}
 use Rattle.texts.specs.Digits.{getDigits, getField, leading, putDigits}
 use Rattle.texts.specs.Forms.{valueForm}

@@ -10,9 +10,9 @@ use lib.ListN.{length, length-append, drop, getD, drop-of-length-le}
 use lib.Seq.{take-at, drop-at, drop-cons}
 use native.Mathlib.Numerals.{add-one}
 use borrow.Author.Tests.{eqb-true, leb-true, lt-ltb, ne-eqb}
+use Rattle.octets.proofs.Laws.Cases.{both}
 use Rattle.calendar.specs.Years.{astronomicalOf}
 use Rattle.calendar.specs.declared.dates.Date.{Date}
-use Rattle.calendar.proofs.Laws.Bools.{both}
 use Rattle.texts.specs.Dates.{putAfter, putDate}
 use Rattle.texts.specs.Digits.{putDigits}
 use Rattle.texts.specs.Forms.{clockForm, dateForm, timeForm, zoneForm, yearOf}

@@ -8,11 +8,12 @@ use lib.Dec.{eqb}
 use lib.ListN.{length, take, drop, getD, length-append}
 use lib.Seq.{take-all, take-at, drop-at}
 use borrow.Author.Tests.{eq-eqb, le-leb}
+use Rattle.octets.specs.Octets.{eqList}
+use Rattle.octets.proofs.Laws.Cases.{both}
 use Rattle.answers.specs.Outcomes.{Answer, done, outcomeOf, roomOf}
 use Rattle.answers.specs.declared.counts.Bits.{Bits}
 use Rattle.answers.specs.declared.outcomes.Outcome.{Outcome}
 use Rattle.answers.proofs.Laws.Outcomes.{enough, in-front}
-use Rattle.calendar.proofs.Laws.Bools.{both}
 use Rattle.calendar.specs.declared.dates.Date.{Date}
 use Rattle.printing.proofs.Laws.Canonical.{text-length}
 use Rattle.texts.specs.Dates.{putDate}
@@ -34,7 +35,6 @@ use Rattle.values.specs.Existence.{existsValue}
 use Rattle.values.specs.Holding.{admits, admitsDate}
 use Rattle.values.proofs.Laws.Existing.{exists-digits}
 use Rattle.values.proofs.Laws.Holding.{in-type}
-use Rattle.lists.specs.Octets.{eqList}
 use mathlib.Core.Option.{some}
 use Rattle.kinds.specs.Coding.{judgedAs}
 use Rattle.kinds.specs.Lawful.{Accepted, Holds, Lawful}

@@ -8,10 +8,10 @@ use lib.Dec.{eqb, leb}
 use lib.ListN.{length, length-append, take, drop, take-append-drop}
 use lib.Seq.{length-take-le, take-append-seam, drop-append-seam}
 use borrow.Author.Tests.{le-leb, leb-true}
-use Rattle.calendar.proofs.Laws.Bools.{both}
+use Rattle.octets.specs.Octets.{eqList}
+use Rattle.octets.proofs.Laws.Cases.{both}
+use Rattle.octets.proofs.Laws.Octets.{equal, equal-test}
 use mathlib.Core.Option.{Option, some, none}
-use Rattle.lists.specs.Octets.{eqList}
-use Rattle.lists.proofs.Laws.Octets.{equal, equal-test}
 use Rattle.texts.specs.Octets.{colon, hyphen, isDigit, letterT}
 use Rattle.texts.specs.Texts.{readOf, render}
 use Rattle.texts.specs.Years.{longestYear}

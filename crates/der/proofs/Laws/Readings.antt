@@ -6,21 +6,19 @@ use Prim.Native.Nat.{ℕ, _+_, _-_, _≤_, _<_}
 use native.Mathlib.Numerals.{add-one}
 use native.Mathlib.Omega.{arith}
 use lib.Dec.{eqb}
-use lib.ListN.{length, length-append, length-drop, take, drop, getD, set, drop-of-length-le}
+use lib.ListN.{length, length-append, length-drop, length-set, take, drop, getD, set, drop-of-length-le}
 use lib.Seq.{drop-cons, drop-drop, length-take-le, take-all, take-at}
 use borrow.Author.Tests.{le-leb, lt-leb, eqb-true}
-use Rattle.calendar.proofs.Laws.Bools.{both}
-use Rattle.lists.specs.Octets.{eqList}
-use Rattle.lists.proofs.Laws.Octets.{unequal-length}
-use Rattle.printing.specs.Stores.{StoredText}
-use Rattle.printing.proofs.Laws.Stores.{put-octet, put-then, sets-front}
+use Rattle.octets.specs.Octets.{eqList}
+use Rattle.octets.specs.Stores.{StoredText, placeAfter, roomAfter}
+use Rattle.octets.proofs.Laws.Cases.{both}
+use Rattle.octets.proofs.Laws.Octets.{unequal-length}
+use Rattle.octets.proofs.Laws.Stores.{put-octet, put-then, put-there, sets-front}
 use mathlib.Core.Option.{none}
 use Rattle.texts.specs.Octets.{colon, hyphen, letterT}
 use Rattle.texts.specs.declared.forms.Form.{Form}
 use Rattle.types.specs.declared.types.Name.{Name}
-use Rattle.der.specs.Elements.{contentsOf}
 use Rattle.der.specs.Readings.{allDigits, dated, digitsOnly, readContents, readLength, separated, timed}
-use Rattle.der.proofs.Laws.Contents.{without-none}
 
 -- A digit leaves the rest to decide, ..
 module _ (l : List ℕ) (i : ℕ) (h : i < length l) where
@@ -83,10 +81,31 @@ module _ (w : ℕ) (d : List ℕ) (h : w + 2 ≤ length d) where
       let two : w + 2 - w ≡ 2 = omega arith in
       put-then f (put-octet (put-then (rw two at g) (put-octet (rw third-part at k))))
 
--- Under a settings list the contents are the text.
-pub copied : (l : List ℕ) → contentsOf Name.Listed l ≡ l
-unfolding contentsOf
-copied l = without-none l
+-- Each part has its place in a room that has one for the digits and two separators: the first, ..
+module _ (w : ℕ) (d : List ℕ) (h : w + 2 ≤ length d) {l : List ℕ} {at : ℕ} (fits : at + (length d + 2) ≤ length l) where
+  pub first-put : {m : List ℕ} {p : ℕ} → (p ≡ placeAfter l at (take w d)) × (m ≡ roomAfter l at (take w d)) → StoredText l m at (take w d) p
+  first-put e = put-there e (let z = first-size w d h in omega arith)
+
+  -- .. the second, ..
+  module _ (c : ℕ) {m n : List ℕ} {p q : ℕ} (f : StoredText l m at (take w d) p) (k : length m ≡ length l) where
+    pub second-put : (q ≡ placeAfter (set m p c) (p + 1) (take (w + 2 - w) (drop w d))) × (n ≡ roomAfter (set m p c) (p + 1) (take (w + 2 - w) (drop w d)))
+        → StoredText (set m p c) n (p + 1) (take (w + 2 - w) (drop w d)) q
+    second-put e =
+        let z = first-size w d h in
+        let y = second-size w d h in
+        put-there e (simp length-set (omega (arith, f .end)))
+
+    -- .. and the third.
+    pub third-put : {o : List ℕ} {r : ℕ} → StoredText (set m p c) n (p + 1) (take (w + 2 - w) (drop w d)) q → length n ≡ length (set m p c)
+        → (r ≡ placeAfter (set n q c) (q + 1) (take (length d - (w + 2)) (drop (w + 2) d)))
+        × (o ≡ roomAfter (set n q c) (q + 1) (take (length d - (w + 2)) (drop (w + 2) d)))
+        → StoredText (set n q c) o (q + 1) (take (length d - (w + 2)) (drop (w + 2) d)) r
+    third-put g j e =
+        let z = first-size w d h in
+        let y = second-size w d h in
+        let x = third-size w d h in
+        let i : length n ≡ length m = simp length-set at j in
+        put-there e (simp length-set (omega (arith, f .end, g .end)))
 
 -- A text that was stored at the front is the front, ..
 pub front-stored : {l m t : List ℕ} {r : ℕ} → StoredText l m 0 t r → length t ≤ length l → take r m ≡ t

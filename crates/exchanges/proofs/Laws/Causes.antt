@@ -8,13 +8,13 @@ use native.Mathlib.Omega.{arith}
 use lib.Dec.{leb}
 use lib.ListN.{length}
 use borrow.Author.Tests.{le-leb, lt-leb, leb-true, leb-false}
+use Rattle.octets.specs.Octets.{eqList}
+use Rattle.octets.proofs.Laws.Cases.{both}
+use Rattle.octets.proofs.Laws.Octets.{equal, equal-test}
 use Rattle.answers.specs.Outcomes.{Answer, done, refused, fits, outcomeOf}
 use Rattle.answers.specs.Refusals.{numberOf}
 use Rattle.answers.specs.declared.counts.Bits.{Bits}
 use Rattle.answers.specs.declared.refusals.Refusal.{Refusal}
-use Rattle.calendar.proofs.Laws.Bools.{both}
-use Rattle.lists.specs.Octets.{eqList}
-use Rattle.lists.proofs.Laws.Octets.{equal, equal-test}
 use Rattle.types.specs.declared.types.Limits.{Limits}
 use Rattle.types.specs.declared.types.TypeRead.{TypeRead}
 use Rattle.types.specs.declared.types.«Type».{«Type» as Ty}

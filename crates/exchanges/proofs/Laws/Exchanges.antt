@@ -6,6 +6,7 @@ use mathlib.Core.Option.{Option, some, none}
 use Prim.Native.Nat.{ℕ, _≤_, _<_}
 use native.Mathlib.Omega.{arith}
 use lib.ListN.{length}
+use Rattle.octets.proofs.Laws.Cases.{both}
 use Rattle.answers.specs.Outcomes.{Answer, done, refused, refusal, outcomeOf, roomOf}
 use Rattle.answers.specs.Refusals.{numberOf}
 use Rattle.answers.specs.declared.counts.Bits.{Bits}
@@ -13,7 +14,6 @@ use Rattle.answers.specs.declared.outcomes.Outcome.{Outcome}
 use Rattle.answers.specs.declared.refusals.Refusal.{Refusal}
 use Rattle.answers.proofs.Laws.Outcomes as Outcomes
 use Rattle.answers.proofs.Laws.Outcomes.{Told, given, withheld}
-use Rattle.calendar.proofs.Laws.Bools.{both}
 use Rattle.kinds.specs.Coding.{encoded, decoded}
 use Rattle.kinds.specs.Kinds.{Kind, holds}
 use Rattle.kinds.specs.Lawful.{Holds, Lawful, Notation}

@@ -7,11 +7,12 @@ use Prim.Native.Nat.{ℕ, _*_}
 use Prim.Native.String.{String}
 use lib.IntN.{ℤ, pos, negsuc}
 use lib.ListN.{length, drop}
+use Rattle.octets.specs.Found.{Found, found, nothing, onward}
 use Rattle.answers.specs.Counts.{octetsFor}
 use Rattle.fields.specs.Bits.{bitsOf, numberIn, packed, octetsOf, unpacked}
 use Rattle.fields.specs.Integers.{half, within, fewest, twos, fromTwos}
 use Rattle.fields.specs.Fields.{Field, Ranged, Free, binaryDigits, width, fieldBits, fieldWidth}
-use Rattle.fields.specs.Readings.{Found, found, nothing, onward, readBits, readRanged, readFree}
+use Rattle.fields.specs.Readings.{readBits, readRanged, readFree}
 use Rattle.answers.proofs.Laws.Quoted.{hex}
 
 -- a range, a number of it, how many bits it has and the octets that they fill; an integer and its octets, the fewest possible, or more;

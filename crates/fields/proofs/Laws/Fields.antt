@@ -11,11 +11,12 @@ use lib.IntN.{ℤ}
 use lib.ListN.{length, take, drop, length-append, take-append-drop}
 use lib.Seq.{drop-at}
 use borrow.Author.Tests.{le-leb, lt-ltb, leb-true, ltb-true}
+use Rattle.octets.specs.Found.{Found, found, nothing, onward}
+use Rattle.octets.proofs.Laws.Found.{nothing-not, found-value, found-rest}
 use Rattle.fields.specs.Bits.{BitString, bitsOf, numberIn}
 use Rattle.fields.specs.Integers.{within, fewest, twos, fromTwos}
 use Rattle.fields.specs.Fields.{Field, Ranged, Free, binaryDigits, width, fieldBits, layout, fieldWidth, bitCount}
-use Rattle.fields.specs.Readings.{Found, found, nothing, onward, readBits, readRanged, readFree}
-use Rattle.fields.proofs.Laws.Found.{nothing-not, found-value, found-rest}
+use Rattle.fields.specs.Readings.{readBits, readRanged, readFree}
 use Rattle.fields.proofs.Laws.Bits.{length-bits, number-bits, number-lt, bits-number}
 use Rattle.fields.proofs.Laws.Integers.{twos-back, twos-fits, from-within, from-back, fewest-range}
 

@@ -6,13 +6,14 @@ use Prim.Native.Nat.{ℕ, _*_, _-_, _≤_}
 use lib.Dec.{leb, ltb, eqb}
 use lib.IntN.{ℤ}
 use borrow.Author.Tests.{le-leb, lt-ltb, leb-true, ltb-true, eqb-true, eq-eqb}
+use Rattle.octets.specs.Found.{Found, found, nothing, onward}
+use Rattle.octets.proofs.Laws.Cases.{by-test, both}
+use Rattle.octets.proofs.Laws.Found.{nothing-not, found-value, found-rest, found-more}
 use Rattle.fields.specs.Bits.{BitString, bitsOf}
 use Rattle.fields.specs.Integers.{within, fewest, twos}
 use Rattle.fields.specs.Fields.{Field, Ranged, Free, width, fieldBits, layout}
-use Rattle.fields.specs.Readings.{Found, found, nothing, onward, Reading, give, ranged, free, refuse, _>>=_, aRanged, aFree, readRanged, readFree, run, over}
+use Rattle.fields.specs.Readings.{Reading, give, ranged, free, refuse, _>>=_, aRanged, aFree, readRanged, readFree, run, over}
 use Rattle.fields.specs.Spelled.{SpelledField, Range, Integer, spelledFields, wellSpelled, spelledBits}
-use Rattle.fields.proofs.Laws.Cases.{by-test, both}
-use Rattle.fields.proofs.Laws.Found.{nothing-not, found-value, found-rest, found-more}
 use Rattle.fields.proofs.Laws.Integers.{within-more, fewest-fits}
 use Rattle.fields.proofs.Laws.Fields.{read-ranged, read-ranged-only, read-free, read-free-only}
 

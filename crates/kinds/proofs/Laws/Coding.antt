@@ -4,11 +4,11 @@ use mathlib.Core.Bool.{Bool, true, false, cond}
 use mathlib.Core.List.{List}
 use Prim.Native.Nat.{ℕ}
 use native.Mathlib.Omega.{arith}
+use Rattle.octets.specs.Octets.{eqList}
+use Rattle.octets.proofs.Laws.Octets.{equal, equal-test}
 use Rattle.answers.specs.Outcomes.{Answer, done, refused}
 use Rattle.answers.specs.declared.counts.Bits.{Bits}
 use Rattle.answers.specs.declared.refusals.Refusal.{Refusal}
-use Rattle.lists.specs.Octets.{eqList}
-use Rattle.lists.proofs.Laws.Octets.{equal, equal-test}
 use mathlib.Core.Option.{Option, some, none}
 use Rattle.kinds.specs.Kinds.{Kind}
 use Rattle.kinds.specs.Coding.{judgedAs, judgedText, encoded, compared, judgedOctets, decoded}

@@ -5,6 +5,8 @@ use mathlib.Core.List.{_∷_, _++_, List, []}
 use Prim.Native.Nat.{ℕ}
 use Prim.Native.String.{String}
 use lib.ListN.{replicate}
+use Rattle.octets.specs.Octets.{bytes, eqList}
+use Rattle.octets.specs.Pieces.{spanTo, splitOn}
 use Rattle.calendar.specs.Dates.{upTo}
 use Rattle.calendar.specs.Integers.{divisible, quotient, remainder}
 use Rattle.calendar.specs.Months.{monthLengthOf}
@@ -15,8 +17,7 @@ use Rattle.texts.specs.Digits.{getDigits, getField, leading, putDigits}
 use Rattle.texts.specs.Texts.{getValue, readUpTo, render}
 use Rattle.texts.specs.Times.{getAfterHours, getClock, getDifference, getFraction, getMinutes, getTime, getZone, putClock, putFraction, putTime, putZone}
 use Rattle.texts.specs.Years.{getSigned, getYear, signedFits, sizeIn, yearDigits, yearText}
-use Rattle.lists.specs.Lists.{addPair, addPairs, complete, completed, datedList, listOf, spanTo, splitOn, timedList}
-use Rattle.lists.specs.Octets.{bytes, eqList}
+use Rattle.lists.specs.Lists.{addPair, addPairs, complete, completed, datedList, listOf, timedList}
 use Rattle.lists.specs.Words.{fractionNumber, pairOf, placeFrom}
 use Rattle.types.specs.Numbers.{clockAt, dateAt, zoneAt}
 use Rattle.settings.specs.TypeTexts.{allOf, distinct, equalLists, joined, listType, listsOf, member, oneRow, sameButYear, timeAt, typeOf, usable, yearFamily, yearsOf}

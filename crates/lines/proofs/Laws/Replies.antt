@@ -3,28 +3,22 @@ use mathlib.Core.Path.{_≡_, refl, ap, _∙_}
 use mathlib.Core.Bool.{true, and-false}
 use mathlib.Core.List.{List, _∷_, _++_}
 use Prim.Native.Nat.{ℕ, _+_, _-_, _<_, _≤_}
-use native.Mathlib.Numerals.{add-one}
 use native.Mathlib.Omega.{arith}
 use lib.Dec.{ltb}
-use lib.ListN.{length, getD, take, drop, set, length-drop}
-use lib.Seq.{sets, drop-cons, take-all, take-append-seam}
+use lib.ListN.{length, take, drop, length-drop}
+use lib.Seq.{take-all, take-append-seam}
 use borrow.Author.Tests.{eq-eqb, ne-eqb, le-leb, lt-leb, lt-ltb, le-ltb}
+use Rattle.octets.specs.Octets.{bytes}
+use Rattle.octets.specs.Pieces.{spanTo}
+use Rattle.octets.specs.Stores.{StoredText}
+use Rattle.octets.proofs.Laws.Stores.{sets-front}
 use Rattle.answers.specs.declared.counts.Bits.{Bits}
 use Rattle.answers.specs.declared.outcomes.Outcome.{Outcome}
 use Rattle.answers.specs.Outcomes.{Answer, done, refused, outcomeOf, roomOf}
-use Rattle.lists.specs.Lists.{spanTo}
-use Rattle.lists.specs.Octets.{bytes}
-use Rattle.printing.specs.Stores.{StoredText}
 use Rattle.line_replies.specs.Lines.{longestLine, unasked, answerShown, worked, cutAgain, replyOf}
 use Rattle.line_replies.specs.Rooms.{replyCapacity, replyLength, roomWith}
 use Rattle.lines.specs.Steps.{replyTo}
 use Rattle.answers.proofs.Laws.Outcomes.{Told, given, withheld, told, number-range, enough, none}
-use Rattle.printing.proofs.Laws.Stores.{sets-front}
-
--- An octet is stored before the rest.
-pub octet-put : (room octets : List ℕ) (place i : ℕ) → i < length octets →
-    sets room place (drop i octets) ≡ sets (set room place (getD octets i 0)) (place + 1) (drop (i + 1) octets)
-octet-put room octets place i h = rw (add-one place, add-one i, drop-cons octets i 0 h)
 
 -- ---- the reply to an outcome
 

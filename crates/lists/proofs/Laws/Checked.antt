@@ -6,9 +6,10 @@ use mathlib.Core.List.{List, [], _∷_}
 use Prim.Native.Nat.{ℕ}
 use Prim.Native.String.{String}
 use lib.Dec.{eqb}
-use Rattle.lists.specs.Octets.{bytes, eqList}
+use Rattle.octets.specs.Octets.{bytes, eqList}
+use Rattle.octets.specs.Pieces.{splitOn}
 use Rattle.lists.specs.Words.{fractionNumber, pairOf, placeFrom}
-use Rattle.lists.specs.Lists.{addPair, addPairs, complete, completed, datedList, listOf, splitOn, timedList}
+use Rattle.lists.specs.Lists.{addPair, addPairs, complete, completed, datedList, listOf, timedList}
 
 data Row : Type 0 where
   list : String → ℕ → ℕ → ℕ → ℕ → ℕ → Row

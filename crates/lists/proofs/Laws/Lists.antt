@@ -7,11 +7,12 @@ use native.Mathlib.Omega.{arith}
 use lib.Dec.{eqb}
 use lib.ListN.{length, take, drop, length-drop}
 use lib.Seq.{drop-drop, take-all}
+use Rattle.octets.specs.Pieces.{splitOn, spanTo}
+use Rattle.octets.proofs.Laws.Pieces.{span-le, split-one, split-more}
 use Rattle.lists.specs.Words.{placeIn, basicWords, dateWords, yearWords, clockWords, fractionNumber, firstNumber, pair, firstOf, pairOf}
-use Rattle.lists.specs.Lists.{splitOn, spanTo, addPair, addPairs}
+use Rattle.lists.specs.Lists.{addPair, addPairs}
 use Rattle.lists.specs.declared.words.Pair.{Pair}
 use Rattle.lists.specs.declared.lists.Settings.{Settings}
-use Rattle.lists.proofs.Laws.Pieces.{span-le, split-one, split-more}
 
 -- What holds of both pairs holds of the first that is a setting.
 pub first-of : (P : Pair → Type 0) (p q : Pair) → P p → P q → P (firstOf p q)

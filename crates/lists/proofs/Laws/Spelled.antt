@@ -9,11 +9,11 @@ use lib.Dec.{eqb, leb}
 use lib.ListN.{length, getD, take}
 use lib.Seq.{take-suc, take-all}
 use borrow.Author.Tests.{leb-true, le-leb, ne-eqb}
-use Rattle.lists.specs.Octets.{bytes, eqList}
+use Rattle.octets.specs.Octets.{bytes, eqList}
+use Rattle.octets.proofs.Laws.Octets.{equal}
 use Rattle.lists.specs.Words.{placeFrom, placeIn, basicWords, dateWords, yearWords, clockWords, fractionWords, zoneWords, withDigits, fractionNumber, firstNumber, pair, pairOf}
 use Rattle.lists.specs.declared.words.Pair.{Pair}
 use Rattle.lists.proofs.Laws.Lists.{first-of}
-use Rattle.lists.proofs.Laws.Octets.{equal}
 
 -- The words, each with its property and the number of its setting: there are no others.
 pub data Word : List ℕ → Pair → Type 0 where

@@ -6,10 +6,10 @@ use native.Mathlib.Omega.{arith}
 use native.Mathlib.Nat.{pow-le-pow-right}
 use lib.IntN.{ℤ, pos, negsuc, natAbs}
 use lib.Signed.{mag}
+use Rattle.octets.proofs.Laws.Cases.{both}
 use Rattle.calendar.specs.Dates.{existsOf}
 use Rattle.calendar.specs.Years.{astronomicalOf}
 use Rattle.calendar.specs.declared.dates.Date.{Date}
-use Rattle.calendar.proofs.Laws.Bools.{both}
 use Rattle.calendar.proofs.Laws.Dates.{in-range}
 use Rattle.texts.specs.Forms.{yearOf}
 use Rattle.texts.specs.Years.{longestYear}

@@ -14,7 +14,7 @@ use Rattle.rows.specs.Fields.{fieldsOf}
 use Rattle.rows.specs.declared.YearRow.{YearRow}
 use Rattle.rows.proofs.Laws.Widths.{most-bits}
 use Rattle.packing.specs.Packed.{inBuffer, packedOf}
-use Rattle.packing.specs.declared.octets.Packed.{Packed}
+use Rattle.packing.specs.declared.writing.Packed.{Packed}
 use Rattle.per.specs.Per.{encodingOf, countOf}
 
 length-encoding : (row : YearRow) (v : Value) → length (encodingOf row v) ≡ octetsFor (countOf row v) .count

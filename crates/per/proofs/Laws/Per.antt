@@ -5,6 +5,7 @@ use mathlib.Core.List.{List}
 use Prim.Native.Nat.{ℕ, _≤_}
 use lib.ListN.{length}
 use native.Mathlib.Omega.{arith}
+use Rattle.octets.specs.Found.{Found, found, nothing}
 use Rattle.answers.specs.Outcomes.{Answer, done}
 use Rattle.answers.specs.declared.counts.Bits.{Bits}
 use Rattle.texts.specs.Times.{canonical}
@@ -15,7 +16,6 @@ use Rattle.types.specs.declared.types.«Type».{«Type» as Ty}
 use Rattle.values.specs.Admission.{admitted, judged}
 use Rattle.values.proofs.Laws.Holding.{in-type}
 use Rattle.fields.specs.Bits.{BitString, unpacked}
-use Rattle.fields.specs.Readings.{Found, found, nothing}
 use Rattle.rows.specs.Fields.{yearRowOf}
 use Rattle.rows.specs.Loose.{ReadableBits}
 use Rattle.rows.specs.Readings.{readOctets}

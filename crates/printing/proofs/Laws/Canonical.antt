@@ -9,6 +9,8 @@ use lib.IntN.{ℤ, pos, negsuc}
 use lib.ListN.{length, length-append, take}
 use lib.Seq.{take-at}
 use borrow.Author.Tests.{le-leb, lt-leb}
+use Rattle.octets.specs.Stores.{StoredText}
+use Rattle.octets.proofs.Laws.Stores.{sets-front}
 use Rattle.calendar.specs.Years.{astronomicalOf, distanceOf}
 use Rattle.calendar.specs.declared.years.Distance.{Distance}
 use Rattle.calendar.specs.declared.dates.Date.{Date}
@@ -24,10 +26,8 @@ use Rattle.texts.specs.Forms.{yearOf, valueForm, formDigits}
 use Rattle.texts.specs.Dates.{putAfter, putDate}
 use Rattle.texts.specs.Times.{putClock, fraction, putFraction, putMinutes, putZone, canonical, putTime}
 use Rattle.texts.specs.Texts.{render, textOf}
-use Rattle.printing.specs.Stores.{StoredText}
 use Rattle.printing.specs.Canonical.{textCapacity, printable, lengthIn, bufferWith}
 use Rattle.texts.proofs.Laws.Digits.{length-put}
-use Rattle.printing.proofs.Laws.Stores.{sets-front}
 
 -- the text of a year before the year 0000, and since it
 pub text-before : {d : Distance} {n : ℕ} (z : ℤ) → d ≡ distanceOf z → d ≡ Distance.Before n → yearText z ≡ hyphen ∷ putDigits (yearDigits n) n

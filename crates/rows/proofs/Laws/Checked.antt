@@ -7,6 +7,7 @@ use Prim.Native.Nat.{ℕ}
 use Prim.Native.String.{String}
 use lib.IntN.{pos, negsuc}
 use lib.ListN.{drop}
+use Rattle.octets.specs.Found.{Found, found, nothing}
 use Rattle.answers.specs.Counts.{octetsFor}
 use Rattle.calendar.specs.Years.{astronomicalOf, yearAt}
 use Rattle.calendar.specs.declared.dates.Date.{Date}
@@ -27,7 +28,7 @@ use Rattle.types.specs.declared.types.Years.{Years}
 use Rattle.fields.specs.Bits.{bitsOf, numberIn, packed, octetsOf, unpacked}
 use Rattle.fields.specs.Integers.{half, within, fewest, twos, fromTwos}
 use Rattle.fields.specs.Fields.{binaryDigits, width, fieldBits, layout, fieldWidth, bitCount}
-use Rattle.fields.specs.Readings.{Found, found, nothing, _>>=_, aRanged, aFree, require, readBits, readRanged, readFree, run}
+use Rattle.fields.specs.Readings.{_>>=_, aRanged, aFree, require, readBits, readRanged, readFree, run}
 use Rattle.answers.proofs.Laws.Quoted.{hex}
 use Rattle.rows.specs.declared.YearRow.{YearRow}
 use Rattle.rows.specs.Fields.{yearRowOf, otherYear, choiceOfYear, yearFields, dayFields, dateFields, clockFields, longFraction, fractionFields, hoursField, differenceFields, zoneFields, timeFields, fieldsOf}

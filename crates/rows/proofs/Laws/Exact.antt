@@ -4,13 +4,14 @@ use mathlib.Core.Bool.{true, false}
 use mathlib.Core.List.{_++_}
 use Prim.Native.Nat.{_*_, _-_}
 use lib.ListN.{length, replicate}
+use Rattle.octets.specs.Found.{found}
 use Rattle.answers.specs.Counts.{octetsFor}
 use Rattle.texts.specs.Forms.{valueForm}
 use Rattle.texts.specs.declared.forms.Form.{Form}
 use Rattle.texts.specs.declared.values.Value.{Value}
 use Rattle.fields.specs.Bits.{BitString, octetsOf}
 use Rattle.fields.specs.Fields.{layout}
-use Rattle.fields.specs.Readings.{found, run}
+use Rattle.fields.specs.Readings.{run}
 use Rattle.fields.specs.Spelled.{spelledFields}
 use Rattle.fields.proofs.Laws.Bits.{unpacked-octets}
 use Rattle.fields.proofs.Laws.Readings.{run-spelled, run-only, run-layout}

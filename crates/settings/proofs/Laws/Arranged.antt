@@ -7,9 +7,10 @@ use native.Mathlib.Omega.{arith}
 use lib.Dec.{eqb, ltb}
 use lib.ListN.{length, getD, set, length-set}
 use borrow.Author.Tests.{ltb-true, eqb-true}
-use Rattle.lists.specs.Octets.{bytes}
+use Rattle.octets.specs.Octets.{bytes}
+use Rattle.octets.specs.Pieces.{splitOn}
 use Rattle.lists.specs.Words.{pair, pairOf}
-use Rattle.lists.specs.Lists.{splitOn, settings, noneYet, refusedList, addPair, addPairs, datedList, timedList, presentIf, complete, completed, listOf}
+use Rattle.lists.specs.Lists.{settings, noneYet, refusedList, addPair, addPairs, datedList, timedList, presentIf, complete, completed, listOf}
 use Rattle.lists.specs.declared.words.Pair.{Pair}
 use Rattle.lists.specs.declared.lists.Settings.{Settings}
 use Rattle.lists.proofs.Laws.Lists.{five-properties}

@@ -7,13 +7,14 @@ use Prim.Native.Nat.{ℕ}
 use Prim.Native.String.{String}
 use lib.Dec.{eqb}
 use lib.IntN.{pos}
+use Rattle.octets.specs.Octets.{bytes, eqList}
+use Rattle.octets.specs.Pieces.{splitOn}
 use Rattle.calendar.specs.Years.{yearAt}
-use Rattle.lists.specs.Octets.{bytes, eqList}
 use Rattle.types.specs.Numbers.{dateAt, clockAt, zoneAt}
 use Rattle.types.specs.Types.{typeNumber, placed, limitedTo, noLimits, fractionDigits}
 use Rattle.types.specs.Rows.{timeNumber, sameRow, sameRows}
 use Rattle.lists.specs.Words.{placeFrom, fractionNumber, pairOf}
-use Rattle.lists.specs.Lists.{splitOn, addPair, addPairs, datedList, timedList, complete, completed, listOf}
+use Rattle.lists.specs.Lists.{addPair, addPairs, datedList, timedList, complete, completed, listOf}
 use Rattle.settings.specs.TypeTexts.{listsOf, sameButYear, yearFamily, oneRow, equalLists, allOf, distinct, usable, member, yearsOf, timeAt, listType, joined, typeOf}
 use Rattle.types.specs.declared.types.Window.{Window}
 use Rattle.types.specs.declared.types.Limits.{Limits}

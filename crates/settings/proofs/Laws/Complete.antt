@@ -6,7 +6,7 @@ use Prim.Native.Nat.{ℕ, _<_, _≤_}
 use native.Mathlib.Omega.{arith}
 use lib.ListN.{length}
 use borrow.Author.Tests.{leb-true}
-use Rattle.lists.specs.Octets.{bytes, eqList}
+use Rattle.octets.specs.Octets.{bytes, eqList}
 use Rattle.types.specs.Types.{listed, DATE, TIME-OF-DAY, DATE-TIME, everyYear, hasDate, hasTime, placed, restricted, limitedTo, limitsOf, someYear, fewDigits, wellParts, wellFormed}
 use Rattle.settings.specs.TypeTexts.{allOf, joined, typeOf}
 use Rattle.settings.specs.Written.{YearSetting, basic, datePairs, timePairs, dateTimePairs, namedYears, listsFor, joinWith, typeText, Arranged, end, more}

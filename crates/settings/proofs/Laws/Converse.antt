@@ -8,11 +8,12 @@ use native.Mathlib.Omega.{arith}
 use lib.Dec.{eqb, leb}
 use lib.ListN.{length}
 use borrow.Author.Tests.{leb-true, le-leb, eqb-true, eq-eqb}
+use Rattle.octets.specs.Octets.{bytes, eqList}
+use Rattle.octets.specs.Pieces.{splitOn, withFirst}
+use Rattle.octets.proofs.Laws.Octets.{equal}
 use Rattle.answers.proofs.Laws.Outcomes.{by-number}
-use Rattle.lists.specs.Octets.{bytes, eqList}
-use Rattle.lists.specs.Lists.{splitOn, withFirst, basicIn, dateIn, yearIn, timeIn, zoneIn, listOf}
+use Rattle.lists.specs.Lists.{basicIn, dateIn, yearIn, timeIn, zoneIn, listOf}
 use Rattle.lists.specs.declared.lists.Settings.{Settings}
-use Rattle.lists.proofs.Laws.Octets.{equal}
 use Rattle.texts.specs.declared.forms.DateForm.{DateForm}
 use Rattle.texts.specs.declared.forms.TimeForm.{TimeForm}
 use Rattle.types.specs.Numbers.{dateNumber, dateAt, zoneNumber}

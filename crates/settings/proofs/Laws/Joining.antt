@@ -6,7 +6,7 @@ use Prim.Native.Nat.{ℕ, suc}
 use lib.Dec.{eqb}
 use lib.ListN.{length}
 use borrow.Author.Tests.{not-true}
-use Rattle.lists.specs.Lists.{splitOn}
+use Rattle.octets.specs.Pieces.{splitOn}
 use Rattle.settings.specs.TypeTexts.{allOf}
 use Rattle.settings.specs.Written.{joinWith}
 

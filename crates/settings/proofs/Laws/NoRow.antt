@@ -5,8 +5,9 @@ use mathlib.Core.List.{List, [], _∷_, _++_, map}
 use mathlib.Core.Bool.{Bool, true, false, _&&_, not, cond, and-eq-true-iff, false≢true}
 use Prim.Native.Nat.{ℕ}
 use native.Mathlib.Omega.{arith}
-use Rattle.lists.specs.Octets.{bytes, eqList}
-use Rattle.lists.specs.Lists.{splitOn, yearIn, listOf}
+use Rattle.octets.specs.Octets.{bytes, eqList}
+use Rattle.octets.specs.Pieces.{splitOn}
+use Rattle.lists.specs.Lists.{yearIn, listOf}
 use Rattle.types.specs.Types.{DATE, TIME-OF-DAY, DATE-TIME, hasDate, hasTime, placed, restricted, limitedTo}
 use Rattle.lists.specs.declared.lists.Settings.{Settings}
 use Rattle.types.specs.declared.types.Limits.{Limits}

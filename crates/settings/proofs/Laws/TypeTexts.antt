@@ -8,12 +8,13 @@ use lib.Dec.{eqb}
 use lib.ListN.{length, take, drop, length-drop}
 use lib.Seq.{take-all}
 use borrow.Author.Tests.{lt-leb}
-use Rattle.lists.specs.Lists.{withFirst, splitOn, spanTo, listOf}
+use Rattle.octets.specs.Pieces.{withFirst, splitOn, spanTo}
+use Rattle.octets.proofs.Laws.Pieces.{span-le, split-one, split-more}
+use Rattle.lists.specs.Lists.{listOf}
 use Rattle.settings.specs.TypeTexts.{listsOf, joined}
 use Rattle.types.specs.declared.types.Limits.{Limits}
 use Rattle.types.specs.declared.types.TypeRead.{TypeRead}
 use Rattle.lists.specs.declared.lists.Settings.{Settings}
-use Rattle.lists.proofs.Laws.Pieces.{span-le, split-one, split-more}
 
 -- A text without a bar is one list.
 pub one-list : (l : List ℕ) (bar : ℕ) → bar ≡ 0 + spanTo 124 l → length l ≤ bar → listsOf l ≡ listOf l ∷ []

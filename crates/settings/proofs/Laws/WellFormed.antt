@@ -8,10 +8,12 @@ use lib.Dec.{eqb, ltb, leb}
 use lib.ListN.{length, getD, set, take, length-set}
 use lib.Seq.{getD-set-same, getD-set-other}
 use borrow.Author.Tests.{leb-true, le-leb, eqb-true, eqb-false, ne-eqb, not-true}
-use Rattle.lists.specs.Octets.{bytes, eqList}
+use Rattle.octets.specs.Octets.{bytes, eqList}
+use Rattle.octets.specs.Pieces.{splitOn}
+use Rattle.octets.proofs.Laws.Cases.{cond-le}
 use Rattle.types.specs.Types.{DATE, TIME-OF-DAY, DATE-TIME, hasDate, hasTime, placed, restricted, limitedTo, someYear, wellParts, ownSettings, wellFormed}
 use Rattle.lists.specs.Words.{placeIn, yearWords, clockWords, fractionWords, withDigits, fractionNumber, firstNumber, pairOf}
-use Rattle.lists.specs.Lists.{splitOn, settings, noneYet, refusedList, addPair, addPairs, basicIn, dateIn, yearIn, timeIn, zoneIn, datedList, timedList, presentIf, complete, completed, listOf}
+use Rattle.lists.specs.Lists.{settings, noneYet, refusedList, addPair, addPairs, basicIn, dateIn, yearIn, timeIn, zoneIn, datedList, timedList, presentIf, complete, completed, listOf}
 use Rattle.settings.specs.TypeTexts.{listsOf, allOf, usable, distinct, oneRow, member, yearsOf, timeAt, listType, joined, typeOf}
 use Rattle.types.specs.declared.types.Years.{Years}
 use Rattle.types.specs.declared.types.Parts.{Parts}
@@ -21,7 +23,7 @@ use Rattle.types.specs.declared.types.Limits.{Limits}
 use Rattle.types.specs.declared.types.TypeRead.{TypeRead}
 use Rattle.lists.specs.declared.words.Pair.{Pair}
 use Rattle.lists.specs.declared.lists.Settings.{Settings}
-use Rattle.lists.proofs.Laws.Words.{cond-le, place-in}
+use Rattle.lists.proofs.Laws.Words.{place-in}
 use Rattle.lists.proofs.Laws.Lists.{every-pair, five-properties}
 
 -- ---- The numbers of a list's Year and Time.

@@ -7,9 +7,10 @@ use native.Mathlib.Omega.{arith}
 use lib.Dec.{eqb, ltb}
 use lib.ListN.{getD, set}
 use borrow.Author.Tests.{eqb-true, ne-eqb}
-use Rattle.lists.specs.Octets.{bytes}
+use Rattle.octets.specs.Octets.{bytes}
+use Rattle.octets.specs.Pieces.{splitOn, withFirst}
 use Rattle.lists.specs.Words.{pair, pairOf}
-use Rattle.lists.specs.Lists.{splitOn, withFirst, settings, refusedList, addPair, addPairs}
+use Rattle.lists.specs.Lists.{settings, refusedList, addPair, addPairs}
 use Rattle.lists.specs.declared.words.Pair.{Pair}
 use Rattle.lists.specs.declared.lists.Settings.{Settings}
 use Rattle.lists.proofs.Laws.Spelled as spelled

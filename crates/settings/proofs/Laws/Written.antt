@@ -7,7 +7,8 @@ use native.Mathlib.Omega.{arith}
 use lib.Dec.{eqb}
 use lib.ListN.{length}
 use borrow.Author.Tests.{lt-ltb, ne-eqb, eq-eqb, eqb-true, eqb-false, not-true}
-use Rattle.lists.specs.Octets.{bytes, eqList}
+use Rattle.octets.specs.Octets.{bytes, eqList}
+use Rattle.octets.proofs.Laws.Octets.{equal}
 use Rattle.types.specs.Numbers.{dateNumber, dateAt, clockNumber, clockAt, zoneNumber, zoneAt}
 use Rattle.types.specs.Types.{unlimitedDate, unlimitedTime, listed, hasDate, hasTime, placed, limitedTo, someYear}
 use Rattle.lists.specs.Words.{placeFrom, fractionNumber, pair, pairOf}
@@ -25,7 +26,6 @@ use Rattle.types.specs.declared.types.Parts.{Parts}
 use Rattle.types.specs.declared.types.Limits.{Limits}
 use Rattle.types.specs.declared.types.TypeRead.{TypeRead}
 use Rattle.lists.specs.declared.lists.Settings.{Settings}
-use Rattle.lists.proofs.Laws.Octets.{equal}
 use Rattle.lists.proofs.Laws.Spelled.{time-HF, time-HMF, time-HMSF, word-read}
 use Rattle.settings.proofs.Laws.Joining.{lacks, split-join, lacks-join, has-join, all-perm, all-weaken, length-perm}
 use Rattle.lists.proofs.Laws.Order.{pairs-perm}

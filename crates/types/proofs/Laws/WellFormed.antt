@@ -4,8 +4,8 @@ use mathlib.Core.Bool.{Bool, true, false, not, _&&_, _||_, or-true, false≢true
 use Prim.Native.Nat.{_≤_}
 use lib.Dec.{eqb}
 use borrow.Author.Tests.{eqb-true, le-leb, leb-true}
+use Rattle.octets.proofs.Laws.Cases.{both}
 use Rattle.answers.proofs.Laws.Outcomes.{by-number}
-use Rattle.calendar.proofs.Laws.Bools.{both}
 use Rattle.texts.specs.declared.forms.ClockForm.{ClockForm}
 use Rattle.texts.specs.declared.forms.DateForm.{DateForm}
 use Rattle.texts.specs.declared.forms.ZoneForm.{ZoneForm}

@@ -2,9 +2,9 @@
 use mathlib.Core.Path.{_≡_, refl}
 use mathlib.Core.Bool.{Bool}
 use Prim.Native.Nat.{ℕ}
+use Rattle.octets.specs.Found.{Found, found, nothing}
 use Rattle.texts.specs.declared.values.Value.{Value}
 use Rattle.fields.specs.Bits.{BitString}
-use Rattle.fields.specs.Readings.{Found, found, nothing}
 use Rattle.unpacking.specs.Unpacked.{valueIn, valueNumber}
 
 -- A value has 0, and "octets end inside a field; a field's bits above its range; .." is 3.

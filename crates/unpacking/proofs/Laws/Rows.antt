@@ -5,9 +5,10 @@ use Prim.Native.Nat.{ℕ, zero, suc, _^_, _≤_}
 use native.Mathlib.Omega.{arith}
 use lib.Dec.{ltb}
 use lib.IntN.{pos, negℤ}
+use Rattle.octets.specs.Found.{found, nothing}
 use Rattle.texts.specs.declared.forms.ClockForm.{ClockForm}
 use Rattle.fields.specs.Bits.{BitString}
-use Rattle.fields.specs.Readings.{found, nothing, give, _>>=_, aRanged, aFree, require, run}
+use Rattle.fields.specs.Readings.{give, _>>=_, aRanged, aFree, require, run}
 use Rattle.rows.specs.Readings.{readChoice, readClock, natural, readExtended, readFraction, readMinutes}
 use Rattle.unpacking.specs.Steps.{afterHours}
 

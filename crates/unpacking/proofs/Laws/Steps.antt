@@ -8,21 +8,19 @@ use lib.Dec.{leb, ltb}
 use lib.ListN.{length, length-drop}
 use lib.Seq.{drop-drop}
 use borrow.Author.Tests.{le-leb, lt-leb}
+use Rattle.octets.specs.Found.{Found, found, nothing, onward}
+use Rattle.octets.proofs.Laws.Cases.{by-leb}
+use Rattle.octets.proofs.Laws.Found.{told}
 use Rattle.answers.specs.declared.counts.Bits.{Bits}
 use Rattle.fields.specs.Bits.{BitString, numberIn, unpacked}
 use Rattle.fields.specs.Fields.{width}
 use Rattle.fields.specs.Integers.{half, fromTwos}
-use Rattle.fields.specs.Readings.{Found, found, nothing, onward, Reading, give, _>>=_, aRanged, aFree, readBits, readRanged, readFree, run}
+use Rattle.fields.specs.Readings.{Reading, give, _>>=_, aRanged, aFree, readBits, readRanged, readFree, run}
 use Rattle.fields.proofs.Laws.Bits.{length-unpacked}
-use Rattle.fields.proofs.Laws.Cases.{by-leb}
 use Rattle.fields.proofs.Laws.Readings.{run-bind}
 use Rattle.unpacking.specs.Steps.{rest, signedOf}
 
--- What a callee's answer says of a reading, once a match has told which answer it is, ..
-pub told : {A B : Type 0} (f : A → B) {r k : A} {m : B} → f r ≡ m → r ≡ k → m ≡ f k
-told f e h = sym e ∙ ap f h
-
--- .. and how the reading goes on by it.
+-- How a reading goes on by what a match has told of its first part.
 module _ {R A B : Type 0} where
   pub step : (see : R → Found Bool A) (t : Reading A) (f : A → Reading B) (s : BitString) {r k : R} → see r ≡ run t s → r ≡ k
       → run (t >>= f) s ≡ onward (see k) (λ a. run (f a))

@@ -7,13 +7,14 @@ use Prim.Native.Nat.{ℕ}
 use Prim.Native.String.{String}
 use lib.Dec.{eqb}
 use lib.IntN.{negsuc, pos}
+use Rattle.octets.specs.Octets.{bytes, eqList}
+use Rattle.octets.specs.Pieces.{splitOn}
 use Rattle.calendar.specs.Dates.{upTo}
 use Rattle.calendar.specs.Integers.{divisible, quotient, remainder}
 use Rattle.calendar.specs.Months.{monthLengthOf}
 use Rattle.calendar.specs.Weeks.{daysOfYears, newYear, weekOf, weekOneOf, weeksOf}
 use Rattle.calendar.specs.Years.{astronomicalOf, leapOf, yearAt, yearLengthOf}
-use Rattle.lists.specs.Lists.{addPair, addPairs, complete, completed, datedList, listOf, splitOn, timedList}
-use Rattle.lists.specs.Octets.{bytes, eqList}
+use Rattle.lists.specs.Lists.{addPair, addPairs, complete, completed, datedList, listOf, timedList}
 use Rattle.lists.specs.Words.{fractionNumber, pairOf, placeFrom}
 use Rattle.types.specs.Numbers.{clockAt, dateAt, zoneAt}
 use Rattle.settings.proofs.Laws.CheckedTypes.{bothLimits, from2000, noHour24, noYears}

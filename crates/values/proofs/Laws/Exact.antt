@@ -10,11 +10,11 @@ use lib.Dec.{T, eqb}
 use lib.IntN.{ℤ}
 use lib.Signed.{leZ, _≤ℤ_, leZ-yes}
 use borrow.Author.Tests.{ne-eqb}
+use Rattle.octets.proofs.Laws.Cases.{both}
 use Rattle.answers.specs.Outcomes.{Answer, done, refused}
 use Rattle.answers.specs.Refusals.{numberOf}
 use Rattle.answers.specs.declared.counts.Bits.{Bits}
 use Rattle.answers.specs.declared.refusals.Refusal.{Refusal}
-use Rattle.calendar.proofs.Laws.Bools.{both}
 use Rattle.calendar.specs.Years.{astronomicalOf}
 use Rattle.calendar.specs.declared.years.Year.{Year}
 use Rattle.calendar.specs.declared.dates.Date.{Date}

@@ -5,7 +5,7 @@ use Prim.Native.Nat.{ℕ, _≤_, _<_, _^_}
 use native.Mathlib.Omega.{arith}
 use lib.Dec.{leb, ltb, eqb}
 use borrow.Author.Tests.{leb-true, ltb-true, eqb-true}
-use Rattle.calendar.proofs.Laws.Bools.{both}
+use Rattle.octets.proofs.Laws.Cases.{both}
 use Rattle.texts.specs.declared.values.Difference.{Difference}
 use Rattle.texts.specs.declared.values.Zone.{Zone}
 use Rattle.texts.specs.declared.values.Time.{Time}

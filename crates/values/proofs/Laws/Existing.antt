@@ -8,7 +8,7 @@ use lib.Dec.{leb}
 use lib.IntN.{natAbs, negsuc, pos, ℤ}
 use lib.ListN.{length, take}
 use borrow.Author.Tests.{le-leb, leb-true}
-use Rattle.calendar.proofs.Laws.Bools.{both}
+use Rattle.octets.proofs.Laws.Cases.{both}
 use Rattle.calendar.proofs.Laws.Dates.{InRange, in-range}
 use Rattle.calendar.specs.Dates.{existsOf}
 use Rattle.calendar.specs.declared.dates.Date.{Date}

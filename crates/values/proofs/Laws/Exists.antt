@@ -5,7 +5,7 @@ use Prim.Native.Nat.{ℕ, _≤_, _<_, _^_}
 use native.Mathlib.Omega.{arith}
 use lib.Dec.{leb, ltb, eqb}
 use borrow.Author.Tests.{leb-true, le-leb, lt-ltb, eqb-true, eq-eqb, ne-eqb}
-use Rattle.calendar.proofs.Laws.Bools.{both}
+use Rattle.octets.proofs.Laws.Cases.{both}
 use Rattle.calendar.proofs.Laws.Existing.{Existing, date-existing, existing-date}
 use Rattle.calendar.specs.Dates.{existsOf}
 use Rattle.calendar.specs.declared.dates.Date.{Date}

@@ -8,7 +8,7 @@ use lib.Dec.{T, leb, eqb}
 use lib.IntN.{ℤ, pos, negsuc}
 use lib.Signed.{leZ, ltZ, _≤ℤ_, _<ℤ_, leZ-yes, ltZ-yes, <ℤ-≤ℤ-trans, clashℤ}
 use borrow.Author.Tests.{leb-true, leb-false, eqb-true, le-leb, lt-leb, eq-eqb}
-use Rattle.calendar.proofs.Laws.Bools.{both}
+use Rattle.octets.proofs.Laws.Cases.{both}
 use Rattle.calendar.specs.Years.{astronomicalOf}
 use Rattle.calendar.specs.declared.years.Year.{Year}
 use Rattle.calendar.specs.declared.dates.Date.{Date}

@@ -5,8 +5,8 @@ use Prim.Native.Nat.{_+_, _-_, _≤_}
 use native.Mathlib.Omega.{arith}
 use lib.ListN.{drop, getD, length}
 use lib.Seq.{sets}
-use Rattle.printing.specs.Stores.{StoredText}
-use Rattle.printing.proofs.Laws.Stores.{put-rest}
+use Rattle.octets.specs.Stores.{StoredText}
+use Rattle.octets.proofs.Laws.Stores.{put-rest}
 use Rattle.der.specs.Elements.{contentsOf}
 use Rattle.der.proofs.Laws.Contents.{contents-count, contents-end, contents-step}
 use Rattle.der.proofs.elements.put_contents.Statement.{statement}

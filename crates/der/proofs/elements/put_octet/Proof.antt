@@ -3,7 +3,7 @@ use mathlib.Core.Path.{_≡_, ap, sym, _∙_}
 use mathlib.Core.List.{[], _∷_}
 use native.Mathlib.Omega.{arith}
 use lib.ListN.{length}
-use Rattle.printing.proofs.Laws.Stores.{put-none, put-octet}
+use Rattle.octets.proofs.Laws.Stores.{put-none, put-octet}
 use Rattle.der.specs.Elements.{contentsOf}
 use Rattle.der.proofs.Laws.Contents.{octet-kept, octet-omitted}
 use borrow.Author.Needs.{needs}

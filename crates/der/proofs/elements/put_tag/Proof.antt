@@ -1,5 +1,5 @@
 -- `elements::put_tag` meets its contract.
-use Rattle.printing.proofs.Laws.Stores.{put-none, put-octet}
+use Rattle.octets.proofs.Laws.Stores.{put-none, put-octet}
 use borrow.Author.Needs.{needs}
 use Rattle.der.proofs.elements.put_tag.Statement.{statement}
 use Rattle.der.proofs.elements.put_tag.Tie as tie

@@ -3,8 +3,8 @@ use mathlib.Core.Path.{_≡_, refl, _∙_}
 use Prim.Native.Nat.{_+_, _≤_}
 use native.Mathlib.Omega.{arith}
 use lib.ListN.{length}
+use Rattle.octets.proofs.Laws.Stores.{sets-front}
 use Rattle.answers.proofs.Laws.Outcomes.{left-out, put-in}
-use Rattle.printing.proofs.Laws.Stores.{sets-front}
 use Rattle.der.specs.Elements.{contentsOf, element, tagOf}
 use Rattle.der.proofs.Laws.Contents.{element-size}
 use borrow.Author.Needs.{needs}

@@ -1,7 +1,7 @@
 -- `replies::number_reply` meets its contract.
 use native.Mathlib.Omega.{arith}
 use lib.ListN.{length-set}
-use Rattle.printing.proofs.Laws.Stores.{put-none, put-octet}
+use Rattle.octets.proofs.Laws.Stores.{put-none, put-octet}
 use borrow.Author.Needs.{needs}
 use Rattle.lines.proofs.replies.number_reply.Statement.{statement}
 use Rattle.lines.proofs.replies.number_reply.Tie as tie

@@ -1,6 +1,6 @@
 -- `replies::result_reply` meets its contract: three texts, one after the other.
 use native.Mathlib.Omega.{arith}
-use Rattle.printing.proofs.Laws.Stores.{put-then}
+use Rattle.octets.proofs.Laws.Stores.{put-then}
 use borrow.Author.Needs.{needs}
 use Rattle.lines.proofs.replies.result_reply.Statement.{statement}
 use Rattle.lines.proofs.replies.result_reply.Tie as tie

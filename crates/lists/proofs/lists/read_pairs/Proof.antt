@@ -4,8 +4,9 @@ use Prim.Native.Nat.{_+_, _-_, _≤_}
 use native.Mathlib.Omega.{arith}
 use lib.ListN.{length, drop}
 use borrow.Author.Needs.{needs}
-use Rattle.lists.specs.Lists.{splitOn, settings, noneYet, addPairs}
-use Rattle.lists.proofs.Laws.Pieces.{found-within}
+use Rattle.octets.specs.Pieces.{splitOn}
+use Rattle.octets.proofs.Laws.Pieces.{found-within}
+use Rattle.lists.specs.Lists.{settings, noneYet, addPairs}
 use Rattle.lists.proofs.Laws.Lists.{five-properties, next-pair, last-pair}
 use Rattle.lists.proofs.lists.read_pairs.Statement.{statement}
 use Rattle.lists.proofs.lists.read_pairs.Tie as tie

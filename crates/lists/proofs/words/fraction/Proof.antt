@@ -1,5 +1,5 @@
 -- `words::fraction` meets its contract.
-use mathlib.Core.Path.{sym}
+use mathlib.Core.Path.{refl, sym}
 use Prim.Native.Nat.{_-_}
 use native.Mathlib.Omega.{arith}
 use lib.ListN.{length, List·getD-eq-default}
@@ -29,19 +29,22 @@ returns-3 : tie.Need-returns-3
 unfolding fractionNumber
 returns-3 c = rw (le-leb _ _ (c .before .if2 .left), lt-leb _ _ (c .if3 .taken))
 
-slice-aggregate-fraction-word : tie.Need-slice-aggregate-fraction-word
-slice-aggregate-fraction-word c = sym (length-take-le _ _ (omega arith))
+slice-aggregate-place-in : tie.Need-slice-aggregate-place-in
+slice-aggregate-place-in c = search needs
 
-fraction-word-requires : tie.Need-fraction-word-requires
-fraction-word-requires c κs = search needs
+slice-aggregate-place-in-2 : tie.Need-slice-aggregate-place-in-2
+slice-aggregate-place-in-2 c = sym (length-take-le _ _ (omega arith))
+
+place-in-requires : tie.Need-place-in-requires
+place-in-requires c κs = search needs
 
 returns-4 : tie.Need-returns-4
 unfolding fractionNumber
 returns-4 c =
     rw (
-      le-leb _ _ (c .before .before .before .before .if2 .left),
-      le-leb _ _ (c .before .before .before .if3 .left),
-      ← c .before .fraction-word .ensures,
+      le-leb _ _ (c .before .before .before .before .before .if2 .left),
+      le-leb _ _ (c .before .before .before .before .if3 .left),
+      ← c .before .place-in .ensures fractionWords refl,
       eq-eqb _ _ (c .if4 .taken),
     )
 
@@ -55,15 +58,15 @@ mul-result : tie.Need-mul-result
 mul-result c = search needs
 
 add-result : tie.Need-add-result
-add-result c = omega (arith, place-in fractionWords _ (c .before .fraction-word .ensures))
+add-result c = omega (arith, place-in fractionWords _ (c .before .place-in .ensures fractionWords refl))
 
 returns-5 : tie.Need-returns-5
 unfolding fractionNumber
 returns-5 c =
     rw (
-      le-leb _ _ (c .before .before .before .before .if2 .left),
-      le-leb _ _ (c .before .before .before .if3 .left),
-      ← c .before .fraction-word .ensures,
+      le-leb _ _ (c .before .before .before .before .before .if2 .left),
+      le-leb _ _ (c .before .before .before .before .if3 .left),
+      ← c .before .place-in .ensures fractionWords refl,
       ne-eqb _ _ (c .if4 .left),
     )
 
@@ -76,8 +79,9 @@ fraction-spec =
     shared-slice-read-digit
     returns-2
     returns-3
-    slice-aggregate-fraction-word
-    fraction-word-requires
+    slice-aggregate-place-in
+    slice-aggregate-place-in-2
+    place-in-requires
     returns-4
     sub-result
     cast-result

@@ -1,7 +1,7 @@
 -- `parts::put_after` meets its contract.
 use native.Mathlib.Omega.{arith}
+use Rattle.octets.proofs.Laws.Stores.{put-none, put-then}
 use Rattle.texts.specs.Dates.{putAfter}
-use Rattle.printing.proofs.Laws.Stores.{put-none, put-then}
 use borrow.Author.Needs.{needs}
 use Rattle.printing.proofs.parts.put_after.Statement.{statement}
 use Rattle.printing.proofs.parts.put_after.Tie as tie

@@ -1,7 +1,7 @@
 -- `parts::put_clock` meets its contract.
 use native.Mathlib.Omega.{arith}
+use Rattle.octets.proofs.Laws.Stores.{put-then}
 use Rattle.texts.specs.Times.{putClock}
-use Rattle.printing.proofs.Laws.Stores.{put-then}
 use borrow.Author.Needs.{needs}
 use Rattle.printing.proofs.parts.put_clock.Statement.{statement}
 use Rattle.printing.proofs.parts.put_clock.Tie as tie

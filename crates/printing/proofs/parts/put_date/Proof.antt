@@ -1,7 +1,7 @@
 -- `parts::put_date` meets its contract.
 use native.Mathlib.Omega.{arith}
+use Rattle.octets.proofs.Laws.Stores.{put-then}
 use Rattle.texts.specs.Dates.{putDate}
-use Rattle.printing.proofs.Laws.Stores.{put-then}
 use borrow.Author.Needs.{needs}
 use Rattle.printing.proofs.parts.put_date.Statement.{statement}
 use Rattle.printing.proofs.parts.put_date.Tie as tie

@@ -1,7 +1,7 @@
 -- `parts::put_difference` meets its contract.
 use native.Mathlib.Omega.{arith}
+use Rattle.octets.proofs.Laws.Stores.{put-then}
 use Rattle.texts.specs.Times.{putZone}
-use Rattle.printing.proofs.Laws.Stores.{put-then}
 use borrow.Author.Needs.{needs}
 use Rattle.printing.proofs.parts.put_difference.Statement.{statement}
 use Rattle.printing.proofs.parts.put_difference.Tie as tie

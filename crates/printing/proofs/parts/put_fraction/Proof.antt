@@ -1,8 +1,8 @@
 -- `parts::put_fraction` meets its contract.
 use native.Mathlib.Omega.{arith}
 use borrow.Author.Tests.{eq-eqb, ne-eqb}
+use Rattle.octets.proofs.Laws.Stores.{put-none}
 use Rattle.texts.specs.Times.{putFraction}
-use Rattle.printing.proofs.Laws.Stores.{put-none}
 use borrow.Author.Needs.{needs}
 use Rattle.printing.proofs.parts.put_fraction.Statement.{statement}
 use Rattle.printing.proofs.parts.put_fraction.Tie as tie

@@ -1,7 +1,7 @@
 -- `parts::put_minutes` meets its contract.
 use native.Mathlib.Omega.{arith}
 use borrow.Author.Tests.{eq-eqb, ne-eqb}
-use Rattle.printing.proofs.Laws.Stores.{put-none}
+use Rattle.octets.proofs.Laws.Stores.{put-none}
 use borrow.Author.Needs.{needs}
 use Rattle.printing.proofs.parts.put_minutes.Statement.{statement}
 use Rattle.printing.proofs.parts.put_minutes.Tie as tie

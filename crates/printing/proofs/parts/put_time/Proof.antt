@@ -1,7 +1,7 @@
 -- `parts::put_time` meets its contract.
 use native.Mathlib.Omega.{arith}
+use Rattle.octets.proofs.Laws.Stores.{put-then}
 use Rattle.texts.specs.Times.{putTime}
-use Rattle.printing.proofs.Laws.Stores.{put-then}
 use borrow.Author.Needs.{needs}
 use Rattle.printing.proofs.parts.put_time.Statement.{statement}
 use Rattle.printing.proofs.parts.put_time.Tie as tie

@@ -2,8 +2,8 @@
 use mathlib.Core.Path.{_∙_}
 use native.Mathlib.Omega.{arith}
 use lib.ListN.{length-set}
+use Rattle.octets.proofs.Laws.Stores.{put-octet, put-then}
 use Rattle.texts.specs.Texts.{render}
-use Rattle.printing.proofs.Laws.Stores.{put-octet, put-then}
 use borrow.Author.Needs.{needs}
 use Rattle.printing.proofs.parts.put_value.Statement.{statement}
 use Rattle.printing.proofs.parts.put_value.Tie as tie

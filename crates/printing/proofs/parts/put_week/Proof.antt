@@ -1,7 +1,7 @@
 -- `parts::put_week` meets its contract.
 use native.Mathlib.Omega.{arith}
 use lib.ListN.{length-set}
-use Rattle.printing.proofs.Laws.Stores.{put-octet}
+use Rattle.octets.proofs.Laws.Stores.{put-octet}
 use borrow.Author.Needs.{needs}
 use Rattle.printing.proofs.parts.put_week.Statement.{statement}
 use Rattle.printing.proofs.parts.put_week.Tie as tie

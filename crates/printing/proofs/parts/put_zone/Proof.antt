@@ -1,7 +1,7 @@
 -- `parts::put_zone` meets its contract.
 use native.Mathlib.Omega.{arith}
+use Rattle.octets.proofs.Laws.Stores.{put-none, put-octet}
 use Rattle.texts.specs.Times.{putZone}
-use Rattle.printing.proofs.Laws.Stores.{put-none, put-octet}
 use borrow.Author.Needs.{needs}
 use Rattle.printing.proofs.parts.put_zone.Statement.{statement}
 use Rattle.printing.proofs.parts.put_zone.Tie as tie

@@ -4,8 +4,9 @@ use mathlib.Core.Path.{_≡_, ap}
 use Prim.Native.Nat.{ℕ, _*_, _≤_}
 use native.Mathlib.Omega.{arith}
 use borrow.Author.Needs.{needs}
+use Rattle.octets.proofs.Laws.Found.{told}
 use Rattle.answers.specs.declared.counts.Bits.{Bits}
-use Rattle.unpacking.proofs.Laws.Steps.{free-by, free-none, free-some, told}
+use Rattle.unpacking.proofs.Laws.Steps.{free-by, free-none, free-some}
 use Rattle.unpacking.specs.Steps.{numberRead, place, seen}
 use Rattle.unpacking.proofs.numbers.free.Statement.{statement}
 use Rattle.unpacking.proofs.numbers.free.Tie as tie

@@ -3,7 +3,8 @@ use mathlib.Core.Path.{ap}
 use native.Mathlib.Omega.{arith}
 use borrow.Author.Needs.{needs}
 use borrow.Author.Tests.{le-ltb, lt-ltb}
-use Rattle.unpacking.proofs.Laws.Steps.{ranged-by, told}
+use Rattle.octets.proofs.Laws.Found.{told}
+use Rattle.unpacking.proofs.Laws.Steps.{ranged-by}
 use Rattle.unpacking.specs.Steps.{place, seen}
 use Rattle.unpacking.proofs.numbers.ranged.Statement.{statement}
 use Rattle.unpacking.proofs.numbers.ranged.Tie as tie
