@@ -37,7 +37,7 @@ fn years_row(years: Years) -> YearRow
 fn row_of(t: Type) -> YearRow
     ensures { λ r. ⌜ r ≡ yearRowOf t ⌝ }
 {
-    let parts = t.parts;
+    let parts = t.settings();
     match parts {
         Parts::Date(date) => {
             let years = date.years;

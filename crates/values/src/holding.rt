@@ -192,7 +192,7 @@ fn time_in(t: TimeType, time: Time) -> bool
 pub fn in_type(t: Type, value: Value) -> bool
     ensures { λ r. ⌜ r ≡ inType t value ⌝ }
 {
-    let parts = t.parts;
+    let parts = t.settings();
     match parts {
         Parts::Date(d) => match value {
             Value::Date(date) => date_in(d, date),

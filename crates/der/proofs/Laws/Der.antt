@@ -23,7 +23,7 @@ use Rattle.texts.specs.Times.{canonical, putTime}
 use Rattle.texts.specs.declared.forms.Form.{Form}
 use Rattle.texts.specs.declared.values.Time.{Time}
 use Rattle.texts.specs.declared.values.Value.{Value}
-use Rattle.types.specs.Types.{basicYmd, formOf, formOfParts, localHms, ownSettings, wellFormed, wellParts}
+use Rattle.types.specs.Types.{basicYmd, formOf, formOfParts, localHms, wellFormed, wellParts, partsOf, nameOf}
 use Rattle.types.specs.declared.types.DateType.{DateType}
 use Rattle.types.specs.declared.types.Name.{Name}
 use Rattle.types.specs.declared.types.Parts.{Parts}
@@ -159,14 +159,14 @@ own-contents form Name.DateTime (Parts.DateTime t u) (Value.Date d) o f a = absu
 own-contents form Name.DateTime (Parts.DateTime t u) (Value.Time e) o f a = absurd (let z : _≡_ {A = ℕ} 0 1 = cc in omega arith)
 
 -- The element of a value that a type holds gives at every form, also at another than the type's, what the canonical text gives.
-pub element-gives : (t : Ty) (v : Value) → Holds der t v → (form : Form) → readElement (t .name) form (elementOf (t .name) v) ≡ ofText (readOf form (textOf v))
+pub element-gives : (t : Ty) (v : Value) → Holds der t v → (form : Form) → readElement (nameOf t) form (elementOf (nameOf t) v) ≡ ofText (readOf form (textOf v))
 unfolding elementOf wellFormed
 element-gives t v h form =
     let i = in-type t v (h .inside) in
-    element-read (t .name) form (contentsOf (t .name) (textOf v)) (let m = length-most (t .name) v (h .real) in omega arith)
-    ∙ own-contents form (t .name) (t .parts) v (both (wellParts (t .parts)) _ (h .formed) .1) (i .0) (i .1)
+    element-read (nameOf t) form (contentsOf (nameOf t) (textOf v)) (let m = length-most (nameOf t) v (h .real) in omega arith)
+    ∙ own-contents form (nameOf t) (partsOf t) v (both (wellParts (partsOf t)) _ (h .formed) .1) (i .0) (i .1)
 
-octets-read : (t : Ty) (v : Value) → Holds der t v → readElement (t .name) (formOf t) (elementOf (t .name) v) ≡ some v
+octets-read : (t : Ty) (v : Value) → Holds der t v → readElement (nameOf t) (formOf t) (elementOf (nameOf t) v) ≡ some v
 octets-read t v h = element-gives t v h (formOf t) ∙ text-read inDer t v h canonical
 
 pub der-lawful : Lawful der
@@ -177,7 +177,7 @@ pub der-accepted : (t : Ty) (octets text : List ℕ) {bits : Bits} → derDecode
 der-accepted t octets text {bits} e = Coding.decoded-only der t octets text bits e
 
 -- Two values of one type never share an encoding.
-pub der-one-encoding : (t : Ty) (a b : Value) → Holds der t a → Holds der t b → elementOf (t .name) a ≡ elementOf (t .name) b → a ≡ b
+pub der-one-encoding : (t : Ty) (a b : Value) → Holds der t a → Holds der t b → elementOf (nameOf t) a ≡ elementOf (nameOf t) b → a ≡ b
 der-one-encoding t a b h k e = Coding.one-encoding der der-lawful t a b h k e
 
 -- ---- how long results are
@@ -186,8 +186,8 @@ der-one-encoding t a b h k e = Coding.one-encoding der der-lawful t a b h k e
 pub der-encoded-short : (t : Ty) (text result : List ℕ) (bits : Bits) → derEncoded t text ≡ done result bits → length result ≤ 55
 der-encoded-short t text result bits e =
     let x = Coding.encoded-only der t text result bits e in
-    let q : elementOf (t .name) (x .0) ≡ result = let r = x .3 in cc in
-    rw (← q) (element-most (t .name) (x .0) (x .1 .real))
+    let q : elementOf (nameOf t) (x .0) ≡ result = let r = x .3 in cc in
+    rw (← q) (element-most (nameOf t) (x .0) (x .1 .real))
 
 pub der-decoded-short : (t : Ty) (octets result : List ℕ) (bits : Bits) → derDecoded t octets ≡ done result bits → length result ≤ 52
 der-decoded-short = decoded-short inDer
