@@ -90,11 +90,11 @@ crossed true false true e = refl
 crossed true false false e = refl
 crossed false b d e = refl
 
--- A date with a time is in a type where the date is in its date part and the time in its time part.
-module _ (t : Ty) (value : Value) {d : DateType} {u : TimeType} {date : Date} {time : Time} where
-  pub date-time-in : partsOf t ≡ Parts.DateTime d u → value ≡ Value.DateTime date time
-      → inType t value ≡ (sameDateForm (dateForm date) (d .form) && admitsDate d date && (sameTimeForm (timeForm time) (u .form) && admitsTime u time))
-  unfolding inType
+-- A date with a time is of a type's settings where the date is of its date's and the time of its time's.
+module _ (parts : Parts) (value : Value) {d : DateType} {u : TimeType} {date : Date} {time : Time} where
+  pub date-time-in : parts ≡ Parts.DateTime d u → value ≡ Value.DateTime date time
+      → (sameForm (valueForm value) (formOfParts parts) && admits parts value)
+      ≡ (sameDateForm (dateForm date) (d .form) && admitsDate d date && (sameTimeForm (timeForm time) (u .form) && admitsTime u time))
   date-time-in p v = simp (p, v) (crossed (sameDateForm (dateForm date) (d .form)) (sameTimeForm (timeForm time) (u .form)) (admitsDate d date) (admitsTime u time))
 
 -- What a type holds exists, and is in the type, ..
