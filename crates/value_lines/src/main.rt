@@ -120,7 +120,7 @@ fn value_reply(t: Type, text: &[u8]) {
 
 // The reply to a text under a type's text.
 fn type_reply(limits: Limits, settings: &[u8], text: &[u8]) {
-    let read = values::read_type(settings, limits);
+    let read = settings::read_type(settings, limits);
     match read {
         TypeRead::Type(t) => value_reply(t, text),
         TypeRead::Unreadable => number_reply(1),
@@ -167,7 +167,7 @@ fn rows_of(a: Type, b: Type) {
 
 // The reply on the rows of a type and a second type's text under its limits.
 fn second_rows(a: Type, limits: Limits, settings: &[u8]) {
-    let read = values::read_type(settings, limits);
+    let read = settings::read_type(settings, limits);
     match read {
         TypeRead::Type(b) => rows_of(a, b),
         TypeRead::Unreadable => number_reply(1),
@@ -177,7 +177,7 @@ fn second_rows(a: Type, limits: Limits, settings: &[u8]) {
 
 // The reply on the rows of two types' texts, each under its limits.
 fn rows_reply(a: Limits, first: &[u8], b: Limits, second: &[u8]) {
-    let read = values::read_type(first, a);
+    let read = settings::read_type(first, a);
     match read {
         TypeRead::Type(t) => second_rows(t, b, second),
         TypeRead::Unreadable => number_reply(1),

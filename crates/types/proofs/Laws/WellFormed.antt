@@ -90,11 +90,14 @@ ymdIn w = record { form = DateForm.YMD; years = Years.Plain (record { basic = tr
 abbrev hmsWith : Bool → TimeType
 hmsWith h = record { form = record { clock = ClockForm.HMS; digits = 0; zone = ZoneForm.L }; hour24 = h }
 
-pub names-settings : (w : Window) (h : Bool)
-    → (partsOf («Type».Date w) ≡ Parts.Date (ymdIn w))
-    × (partsOf («Type».TimeOfDay h) ≡ Parts.Time (hmsWith h))
-    × (partsOf («Type».DateTime w h) ≡ Parts.DateTime (ymdIn w) (hmsWith h))
-names-settings w h = (refl, refl, refl)
+pub DATE-settings : (w : Window) → partsOf («Type».Date w) ≡ Parts.Date (ymdIn w)
+DATE-settings w = refl
+
+pub TIME-OF-DAY-settings : (h : Bool) → partsOf («Type».TimeOfDay h) ≡ Parts.Time (hmsWith h)
+TIME-OF-DAY-settings h = refl
+
+pub DATE-TIME-settings : (w : Window) (h : Bool) → partsOf («Type».DateTime w h) ≡ Parts.DateTime (ymdIn w) (hmsWith h)
+DATE-TIME-settings w h = refl
 
 -- A type of a name is told apart by it; settings that are listed have none.
 pub names-told : (p : Parts) (w : Window) (h : Bool)

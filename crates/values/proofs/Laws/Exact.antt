@@ -218,6 +218,10 @@ given-number : (v : Value) (j : Judgement) → admissionNumber (givenAs v j) ≡
 given-number v Judgement.Held = refl
 given-number v (Judgement.Refused why) = refl
 
+-- The number of a text that gives a value is 0.
+pub given-told : (v : Value) → admissionNumber (Admission.Value v) ≡ 0
+given-told v = refl
+
 module _ (t : Ty) (l : List ℕ) where
   pub admission-why : WhyAdmitted t l (admissionNumber (admitted t l))
   unfolding admitted
