@@ -1,6 +1,6 @@
 """Sees that the crates above the calendar rely on its promises and laws: no file outside
 crates/calendar opens one of its definitions by `unfolding`. Tables of checked values may,
-and stand in files named Checked.antt. Prints each place and exits 1, or prints nothing."""
+and stand in files whose names begin with Checked. Prints each place and exits 1, or prints nothing."""
 
 import re
 import sys
@@ -33,7 +33,7 @@ def places(root):
             continue
         foreign = calendar - defined(crate)
         for file in sorted(crate.glob("**/*.antt")):
-            if file.name == "Checked.antt":
+            if file.name.startswith("Checked"):
                 continue
             text = file.read_text("utf-8")
             closed = foreign - imported(text, False) | imported(text, True)

@@ -50,7 +50,7 @@ LIMITS = {
     "from1500": settings.Limits((1500, 1600), False),
 }
 
-TEXTS = ROOT / "crates/values/proofs/Laws/Checked.antt"
+TEXTS = ROOT / "crates/exchanges/proofs/Laws/CheckedTexts.antt"
 TEXT = re.compile(rf'^ +row "([^"]*)" {QUOTED} (\d) "([^"]*)" ∷', re.M)
 UNDER = re.compile(r'^ +under "([^"]*)" (\w+) "([^"]*)" (\d) "([^"]*)" ∷', re.M)
 

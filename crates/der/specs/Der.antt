@@ -5,6 +5,7 @@ use Rattle.answers.specs.Outcomes.{Answer}
 use Rattle.answers.specs.declared.counts.Bits.{Bits}
 use Rattle.texts.specs.declared.forms.Form.{Form}
 use Rattle.texts.specs.declared.values.Value.{Value}
+use Rattle.types.specs.Types.{nameOf}
 use Rattle.types.specs.declared.types.Name.{Name}
 use Rattle.types.specs.declared.types.«Type».{«Type» as Ty}
 use Rattle.kinds.specs.Kinds.{Kind}
@@ -12,10 +13,6 @@ use Rattle.kinds.specs.Coding.{encoded, decoded}
 use Rattle.encodings.specs.Encodings.{Encoding, encodedBy}
 use Rattle.der.specs.Elements.{elementOf}
 use Rattle.der.specs.Readings.{readElement}
-
--- What of a type decides the tag.
-abbrev pub nameOf : Ty → Name
-nameOf t = t .name
 
 -- "the bit count: .. in DER 0"
 abbrev pub noBits : Bits

@@ -25,7 +25,7 @@ fn compare(t: Type, octets: &[u8], value: Value, room: &mut [u8]) -> Outcome
     ensures { λ r. ⌜ r ≡ outcomeOf (compared derKind t (now (octets .entry)) value) (now (room .entry)) ⌝ }
     ensures { λ _. ⌜ now (room .exit) ≡ roomOf (compared derKind t (now (octets .entry)) value) (now (room .entry)) ⌝ }
 {
-    let name = t.name;
+    let name = t.name();
     let mut text = [0u8; TEXT_CAPACITY];
     let length = text_into(value, &mut text);
     let mut own = [0u8; TEXT_CAPACITY];
@@ -45,7 +45,7 @@ pub fn decode(t: Type, octets: &[u8], room: &mut [u8]) -> Outcome
     if !t.well_formed() {
         return Outcome::refused(Refusal::Settings);
     }
-    let name = t.name;
+    let name = t.name();
     let TextRead::Value(value, _) = read_element(name, t.form(), octets) else {
         return Outcome::refused(Refusal::Form);
     };

@@ -180,7 +180,7 @@ pub fn encode(t: Type, text: &[u8], room: &mut [u8]) -> Outcome
     ensures { λ r. ⌜ r ≡ outcomeOf (derEncoded t (now (text .entry))) (now (room .entry)) ⌝ }
     ensures { λ _. ⌜ now (room .exit) ≡ roomOf (derEncoded t (now (text .entry))) (now (room .entry)) ⌝ }
 {
-    let name = t.name;
+    let name = t.name();
     let admission = admit(t, text);
     match admission {
         Admission::Value(value) => write_value(name, value, room),

@@ -14,7 +14,7 @@ use Rattle.answers.specs.Outcomes.{Answer, outcomeOf}
 use Rattle.answers.specs.declared.refusals.Refusal.{Refusal}
 use Rattle.texts.specs.Texts.{readOf, render, textOf}
 use Rattle.texts.specs.declared.values.Value.{Value}
-use Rattle.types.specs.Types.{formOf, typeNumber, wellFormed}
+use Rattle.types.specs.Types.{formOf, typeNumber, wellFormed, nameOf}
 use Rattle.types.specs.declared.types.Limits.{Limits}
 use Rattle.types.specs.declared.types.TypeRead.{TypeRead}
 use Rattle.types.specs.declared.types.«Type».{«Type» as Ty}
@@ -108,7 +108,7 @@ pub demand-3-der : Demand3InDer
 unfolding answerOf
 demand-3-der settings₁ limits₁ w e₁ settings₂ limits₂ r e₂ v h s room ok q =
     let k = read-well-formed limits₁ settings₁ w e₁ in
-    let n : w .name ≡ r .name = one-tag (w .name) (r .name) q in
+    let n : nameOf w ≡ nameOf r = one-tag (nameOf w) (nameOf r) q in
     meets-3 der der-lawful render (noted inDer) w r k (read-well-formed limits₂ settings₂ r e₂) n v h
     (λ z. rw (← n) (element-gives w v (held inDer w v k h) (formOf r) ∙ z))
     (derEncode settings₁ limits₁ (render s v)) room

@@ -2,4 +2,5 @@
 pub mod Exchanges
 pub mod Causes
 pub mod Results
+pub mod CheckedTexts
 pub mod Checked

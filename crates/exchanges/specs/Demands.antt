@@ -13,7 +13,7 @@ use Rattle.texts.specs.Texts.{render, textOf}
 use Rattle.texts.specs.declared.values.Spelling.{Spelling}
 use Rattle.texts.specs.declared.values.Value.{Value}
 use Rattle.types.specs.Rows.{sameRows}
-use Rattle.types.specs.Types.{formOf, fractionDigits, typeNumber}
+use Rattle.types.specs.Types.{formOf, fractionDigits, typeNumber, nameOf}
 use Rattle.types.specs.declared.types.Limits.{Limits}
 use Rattle.types.specs.declared.types.TypeRead.{TypeRead}
 use Rattle.types.specs.declared.types.Window.{Window}
@@ -128,7 +128,7 @@ Demand2InPer = (settings : List ℕ) (limits : Limits) (t : Ty) → typeOf limit
 abbrev pub Demand2InDer : Type 0
 Demand2InDer = (settings : List ℕ) (limits : Limits) (t : Ty) → typeOf limits settings ≡ TypeRead.«Type» t
     → Demand2 der render (derEncode settings limits) (derDecode settings limits) t
-    (λ v. tagOf (t .name) ++ length (contentsOf (t .name) (textOf v)) ∷ contentsOf (t .name) (textOf v)) (λ v. 0)
+    (λ v. tagOf (nameOf t) ++ length (contentsOf (nameOf t) (textOf v)) ∷ contentsOf (nameOf t) (textOf v)) (λ v. 0)
 
 -- ---- demand 3
 
@@ -162,7 +162,7 @@ abbrev pub Demand3InDer : Type 0
 Demand3InDer = (settings₁ : List ℕ) (limits₁ : Limits) (w : Ty) → typeOf limits₁ settings₁ ≡ TypeRead.«Type» w
     → (settings₂ : List ℕ) (limits₂ : Limits) (r : Ty) → typeOf limits₂ settings₂ ≡ TypeRead.«Type» r
     → (v : Value) → holds der w v ≡ true → (s : Spelling) (room : List ℕ) → outcomeOf (derEncode settings₁ limits₁ (render s v)) room .number ≡ 0
-    → tagOf (w .name) ≡ tagOf (r .name) → Demand3 der (derEncode settings₁ limits₁ (render s v)) room (derDecode settings₂ limits₂) r v
+    → tagOf (nameOf w) ≡ tagOf (nameOf r) → Demand3 der (derEncode settings₁ limits₁ (render s v)) room (derDecode settings₂ limits₂) r v
 
 -- ---- the seven numbers
 

@@ -1,7 +1,7 @@
 ghost use mathlib.Core.Path.{_≡_};
 ghost use Rattle.answers.specs.Outcomes.{done, outcomeOf, roomOf};
 ghost use Rattle.kinds.specs.Coding.{compared};
-ghost use Rattle.rows.specs.Fields.{yearRowOf, yearsRow};
+ghost use Rattle.rows.specs.Fields.{yearRowOf, yearRowOfParts, yearsRow};
 ghost use Rattle.values.specs.Existence.{existsValue};
 ghost use mathlib.Core.Bool.{true};
 ghost use Rattle.per.specs.Per.{per as perKind, encodingOf, countOf, perEncoded, perDecoded};
@@ -33,11 +33,10 @@ fn years_row(years: Years) -> YearRow
     }
 }
 
-// How a type's row has its years.
-fn row_of(t: Type) -> YearRow
-    ensures { λ r. ⌜ r ≡ yearRowOf t ⌝ }
+// How the row of these settings has its years.
+fn parts_row(parts: Parts) -> YearRow
+    ensures { λ r. ⌜ r ≡ yearRowOfParts parts ⌝ }
 {
-    let parts = t.parts;
     match parts {
         Parts::Date(date) => {
             let years = date.years;
@@ -48,6 +47,18 @@ fn row_of(t: Type) -> YearRow
             let years = date.years;
             years_row(years)
         }
+    }
+}
+
+// How a type's row has its years.
+fn row_of(t: Type) -> YearRow
+    ensures { λ r. ⌜ r ≡ yearRowOf t ⌝ }
+{
+    match t {
+        Type::Listed(parts) => parts_row(parts),
+        Type::Date(_) => YearRow::Year,
+        Type::TimeOfDay(_) => YearRow::Year,
+        Type::DateTime(_, _) => YearRow::Year,
     }
 }
 

@@ -3,6 +3,7 @@ use Prim.Native.Nat.{ℕ, _+_}
 use mathlib.Core.Bool.{Bool, _&&_, cond}
 use lib.Dec.{eqb}
 use Rattle.types.specs.Numbers.{dateNumber, clockNumber, zoneNumber}
+use Rattle.types.specs.Types.{partsOf}
 use Rattle.texts.specs.declared.forms.TimeForm.{TimeForm}
 use Rattle.types.specs.declared.types.Years.{Years}
 use Rattle.types.specs.declared.types.Parts.{Parts}
@@ -42,4 +43,4 @@ sameRow a b =
 
 -- Whether two types select the same rows.
 unfoldable pub sameRows : «Type» → «Type» → Bool
-sameRows a b = sameRow (rowOf (a .parts)) (rowOf (b .parts))
+sameRows a b = sameRow (rowOf (partsOf a)) (rowOf (partsOf b))

@@ -1,9 +1,8 @@
 -- "What a type is": its settings, its name, and the restrictions that it carries.
 use Prim.Native.Nat.{ℕ}
-use mathlib.Core.Bool.{Bool, true, false, not, _&&_, _||_, cond}
-use lib.Dec.{eqb, leb}
+use mathlib.Core.Bool.{Bool, true, false, _&&_, _||_, cond}
+use lib.Dec.{leb}
 use Rattle.answers.specs.Refusals.{numberOf}
-use Rattle.types.specs.Numbers.{dateNumber, clockNumber, zoneNumber}
 use Rattle.texts.specs.declared.forms.DateForm.{DateForm}
 use Rattle.texts.specs.declared.forms.ClockForm.{ClockForm}
 use Rattle.texts.specs.declared.forms.ZoneForm.{ZoneForm}
@@ -36,7 +35,7 @@ unlimitedTime f = record { form = f; hour24 = true }
 
 -- A type that is given by its settings and not by a name.
 abbrev pub listed : Parts → «Type»
-listed p = record { name = Name.Listed; parts = p }
+listed p = «Type».Listed p
 
 -- "The names DATE, TIME-OF-DAY and DATE-TIME may stand for their settings (34 bis.4): YMD with Year=Basic, ..
 abbrev pub ymdBasic : DateType
@@ -48,22 +47,15 @@ hmsLocal = unlimitedTime (record { clock = ClockForm.HMS; digits = 0; zone = Zon
 
 -- The type DATE.
 abbrev pub DATE : «Type»
-DATE = record { name = Name.Date; parts = Parts.Date ymdBasic }
+DATE = «Type».Date Window.Every
 
 -- The type TIME-OF-DAY.
 abbrev pub TIME-OF-DAY : «Type»
-TIME-OF-DAY = record { name = Name.TimeOfDay; parts = Parts.Time hmsLocal }
+TIME-OF-DAY = «Type».TimeOfDay true
 
 -- The type DATE-TIME.
 abbrev pub DATE-TIME : «Type»
-DATE-TIME = record { name = Name.DateTime; parts = Parts.DateTime ymdBasic hmsLocal }
-
--- The type that each name stands for; settings that are listed have no name.
-abbrev pub readyOf : Name → TypeRead
-readyOf Name.Listed = TypeRead.Unreadable
-readyOf Name.Date = TypeRead.«Type» DATE
-readyOf Name.TimeOfDay = TypeRead.«Type» TIME-OF-DAY
-readyOf Name.DateTime = TypeRead.«Type» DATE-TIME
+DATE-TIME = «Type».DateTime Window.Every true
 
 -- Whether the value has a date, ..
 abbrev pub hasDate : Parts → Bool
@@ -100,12 +92,30 @@ restricted limits (Parts.Date d) = Parts.Date (withWindow (limits .window) d)
 restricted limits (Parts.Time t) = Parts.Time (withHour24 (limits .hour24) t)
 restricted limits (Parts.DateTime d t) = Parts.DateTime (withWindow (limits .window) d) (withHour24 (limits .hour24) t)
 
+-- The settings of a type: those that are listed, or those that its name stands for, with its restrictions.
+abbrev pub partsOf : «Type» → Parts
+partsOf («Type».Listed p) = p
+partsOf («Type».Date w) = Parts.Date (withWindow w ymdBasic)
+partsOf («Type».TimeOfDay h) = Parts.Time (withHour24 h hmsLocal)
+partsOf («Type».DateTime w h) = Parts.DateTime (withWindow w ymdBasic) (withHour24 h hmsLocal)
+
+-- Its name, or that its settings are listed: what decides the tag.
+abbrev pub nameOf : «Type» → Name
+nameOf («Type».Listed p) = Name.Listed
+nameOf («Type».Date w) = Name.Date
+nameOf («Type».TimeOfDay h) = Name.TimeOfDay
+nameOf («Type».DateTime w h) = Name.DateTime
+
+-- A type with the restrictions of these limits, and no other; a name stays.
+abbrev pub carrying : Limits → «Type» → «Type»
+carrying limits («Type».Listed p) = «Type».Listed (restricted limits p)
+carrying limits («Type».Date w) = «Type».Date (limits .window)
+carrying limits («Type».TimeOfDay h) = «Type».TimeOfDay (limits .hour24)
+carrying limits («Type».DateTime w h) = «Type».DateTime (limits .window) (limits .hour24)
+
 -- A type under limits, or refusal 1: "a restriction where it has no place".
 unfoldable pub limitedTo : Limits → «Type» → TypeRead
-limitedTo limits t =
-    cond (placed limits (hasDate (t .parts)) (hasTime (t .parts)))
-    (TypeRead.«Type» (record { name = t .name; parts = restricted limits (t .parts) }))
-    TypeRead.Unreadable
+limitedTo limits t = cond (placed limits (hasDate (partsOf t)) (hasTime (partsOf t))) (TypeRead.«Type» (carrying limits t)) TypeRead.Unreadable
 
 -- "A type may carry two restrictions": none of them, ..
 abbrev pub noLimits : Limits
@@ -132,35 +142,12 @@ wellParts (Parts.Date d) = someYear (d .years)
 wellParts (Parts.Time t) = fewDigits t
 wellParts (Parts.DateTime d t) = someYear (d .years) && fewDigits t
 
--- Year=Basic and no other.
-abbrev pub basicAlone : Years → Bool
-basicAlone (Years.Plain y) = y .basic && not (y .proleptic)
-basicAlone (Years.Signed y) = false
-
--- "YMD with Year=Basic".
-abbrev pub basicYmd : DateType → Bool
-basicYmd d = eqb (dateNumber (d .form)) 3 && basicAlone (d .years)
-
--- "HMS with L".
-abbrev pub localHms : TimeType → Bool
-localHms t = eqb (clockNumber (t .form .clock)) 3 && eqb (t .form .digits) 0 && eqb (zoneNumber (t .form .zone)) 1
-
--- A name stands for its own settings only, whatever the restrictions.
-abbrev pub ownSettings : Name → Parts → Bool
-ownSettings Name.Listed p = true
-ownSettings Name.Date (Parts.Date d) = basicYmd d
-ownSettings Name.Date (Parts.Time t) = false
-ownSettings Name.Date (Parts.DateTime d t) = false
-ownSettings Name.TimeOfDay (Parts.Date d) = false
-ownSettings Name.TimeOfDay (Parts.Time t) = localHms t
-ownSettings Name.TimeOfDay (Parts.DateTime d t) = false
-ownSettings Name.DateTime (Parts.Date d) = false
-ownSettings Name.DateTime (Parts.Time t) = false
-ownSettings Name.DateTime (Parts.DateTime d t) = basicYmd d && localHms t
-
 -- A type that settings or a name can give; any other is refusal 1.
-unfoldable pub wellFormed : «Type» → Bool
-wellFormed t = wellParts (t .parts) && ownSettings (t .name) (t .parts)
+abbrev pub wellFormed : «Type» → Bool
+wellFormed («Type».Listed p) = wellParts p
+wellFormed («Type».Date w) = true
+wellFormed («Type».TimeOfDay h) = true
+wellFormed («Type».DateTime w h) = true
 
 -- "The form is what a text shows of the settings, n included and Year left out."
 abbrev pub formOfParts : Parts → Form
@@ -170,7 +157,7 @@ formOfParts (Parts.DateTime d t) = Form.DateTime (d .form) (t .form)
 
 -- The form of a type.
 abbrev pub formOf : «Type» → Form
-formOf t = formOfParts (t .parts)
+formOf t = formOfParts (partsOf t)
 
 -- "A type's number of fraction digits is n, or 0 without Fn."
 abbrev pub digitsOfParts : Parts → ℕ
@@ -180,4 +167,4 @@ digitsOfParts (Parts.DateTime d t) = t .form .digits
 
 -- The number of fraction digits of a type.
 abbrev pub fractionDigits : «Type» → ℕ
-fractionDigits t = digitsOfParts (t .parts)
+fractionDigits t = digitsOfParts (partsOf t)

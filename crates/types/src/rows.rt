@@ -109,7 +109,5 @@ fn same_row(a: Row, b: Row) -> bool
 pub fn same_rows(a: Type, b: Type) -> bool
     ensures { λ r. ⌜ r ≡ sameRows a b ⌝ }
 {
-    let p = a.parts;
-    let q = b.parts;
-    same_row(row_of(p), row_of(q))
+    same_row(row_of(a.settings()), row_of(b.settings()))
 }

@@ -1,9 +1,6 @@
 ghost use mathlib.Core.Path.{_≡_};
 ghost use mathlib.Core.Bool.{_||_};
-ghost use Rattle.types.specs.Types.{basicAlone, hasDate, digitsOfParts, everyYear, formOf, formOfParts, fractionDigits, withWindow, limitedTo, listed, localHms, ownSettings, readyOf, placed, restricted, someYear, hasTime, unlimitedDate, unlimitedTime, basicYmd, wellFormed, wellParts, withHour24};
-use crate::numbers::clock_number;
-use crate::numbers::date_number;
-use crate::numbers::zone_number;
+ghost use Rattle.types.specs.Types.{carrying, digitsOfParts, everyYear, formOf, formOfParts, fractionDigits, hasDate, hasTime, limitedTo, listed, nameOf, partsOf, placed, restricted, someYear, unlimitedDate, unlimitedTime, wellFormed, wellParts, withHour24, withWindow};
 use calendar::Year;
 use texts::ClockForm;
 use texts::DateForm;
@@ -52,18 +49,20 @@ pub enum Parts {
     DateTime(DateType, TimeType),
 }
 
+// A type description: its settings are listed, or a name stands for them and there are its restrictions alone.
+pub enum Type {
+    Listed(Parts),
+    Date(Window),
+    TimeOfDay(bool),
+    DateTime(Window, bool),
+}
+
 // The name that stands for the settings, or that they are listed. The DER tag goes by it.
 pub enum Name {
     Listed,
     Date,
     TimeOfDay,
     DateTime,
-}
-
-// A type description.
-pub struct Type {
-    pub name: Name,
-    pub parts: Parts,
 }
 
 // The restrictions that a type may carry, given beside its text: the lowest and the highest year, and whether
@@ -139,13 +138,6 @@ fn has_time(parts: Parts) -> bool
     }
 }
 
-// Whether limits have their place beside these settings.
-fn fits(limits: Limits, parts: Parts) -> bool
-    ensures { λ r. ⌜ r ≡ placed limits (hasDate parts) (hasTime parts) ⌝ }
-{
-    has_place(limits, has_date(parts), has_time(parts))
-}
-
 // The same date with this lowest and highest year.
 fn with_window(window: Window, date: DateType) -> DateType
     ensures { λ r. ⌜ r ≡ withWindow window date ⌝ }
@@ -190,41 +182,6 @@ fn some_year(years: Years) -> bool
     }
 }
 
-// Whether the Years are Basic alone.
-fn basic_alone(years: Years) -> bool
-    ensures { λ r. ⌜ r ≡ basicAlone years ⌝ }
-{
-    match years {
-        Years::Plain(y) => y.basic && !y.proleptic,
-        Years::Signed(_) => false,
-    }
-}
-
-// Whether a date has the settings of the name DATE.
-fn basic_ymd(date: DateType) -> bool
-    ensures { λ r. ⌜ r ≡ basicYmd date ⌝ }
-{
-    let form = date.form;
-    let years = date.years;
-    date_number(form) == 3 && basic_alone(years)
-}
-
-// Whether a time has the settings of the name TIME-OF-DAY.
-fn local_hms(time: TimeType) -> bool
-    ensures { λ r. ⌜ r ≡ localHms time ⌝ }
-{
-    let form = time.form;
-    let clock = form.clock;
-    let zone = form.zone;
-    if clock_number(clock) != 3 {
-        return false;
-    }
-    if form.digits != 0 {
-        return false;
-    }
-    zone_number(zone) == 1
-}
-
 // Whether some Year is named and a fraction has at most 9 digits.
 fn well_parts(parts: Parts) -> bool
     ensures { λ r. ⌜ r ≡ wellParts parts ⌝ }
@@ -239,30 +196,6 @@ fn well_parts(parts: Parts) -> bool
             let years = d.years;
             some_year(years) && time_digits(t) <= 9
         }
-    }
-}
-
-// Whether a name stands over its own settings.
-fn own_settings(name: Name, parts: Parts) -> bool
-    ensures { λ r. ⌜ r ≡ ownSettings name parts ⌝ }
-{
-    match name {
-        Name::Listed => true,
-        Name::Date => match parts {
-            Parts::Date(d) => basic_ymd(d),
-            Parts::Time(_) => false,
-            Parts::DateTime(_, _) => false,
-        },
-        Name::TimeOfDay => match parts {
-            Parts::Date(_) => false,
-            Parts::Time(t) => local_hms(t),
-            Parts::DateTime(_, _) => false,
-        },
-        Name::DateTime => match parts {
-            Parts::Date(_) => false,
-            Parts::Time(_) => false,
-            Parts::DateTime(d, t) => basic_ymd(d) && local_hms(t),
-        },
     }
 }
 
@@ -316,74 +249,50 @@ const YMD_BASIC: DateType = DateType {
     window: Window::Every,
 };
 
+const HMS_L: TimeForm = TimeForm {
+    clock: ClockForm::HMS,
+    digits: 0,
+    zone: ZoneForm::L,
+};
+
 const HMS_LOCAL: TimeType = TimeType {
-    form: TimeForm {
-        clock: ClockForm::HMS,
-        digits: 0,
-        zone: ZoneForm::L,
-    },
+    form: HMS_L,
     hour24: true,
 };
 
 impl Type {
     // Year, month and day of the years 1582 to 9999.
-    pub const DATE: Type = Type {
-        name: Name::Date,
-        parts: Parts::Date(YMD_BASIC),
-    };
+    pub const DATE: Type = Type::Date(Window::Every);
 
     // Hours, minutes and seconds of local time.
-    pub const TIME_OF_DAY: Type = Type {
-        name: Name::TimeOfDay,
-        parts: Parts::Time(HMS_LOCAL),
-    };
+    pub const TIME_OF_DAY: Type = Type::TimeOfDay(true);
 
     // Both together.
-    pub const DATE_TIME: Type = Type {
-        name: Name::DateTime,
-        parts: Parts::DateTime(YMD_BASIC, HMS_LOCAL),
-    };
-
-    // The type that a name stands for; settings that are listed have none.
-    pub fn ready(name: Name) -> TypeRead
-        ensures { λ r. ⌜ r ≡ readyOf name ⌝ }
-    {
-        match name {
-            Name::Listed => TypeRead::Unreadable,
-            Name::Date => TypeRead::Type(Type::DATE),
-            Name::TimeOfDay => TypeRead::Type(Type::TIME_OF_DAY),
-            Name::DateTime => TypeRead::Type(Type::DATE_TIME),
-        }
-    }
+    pub const DATE_TIME: Type = Type::DateTime(Window::Every, true);
 
     // The type of a date with these settings.
     pub fn date(form: DateForm, years: Years) -> Type
         ensures { λ r. ⌜ r ≡ listed (Parts.Date (unlimitedDate form years)) ⌝ }
     {
-        let name = Name::Listed;
         let window = Window::Every;
-        let parts = Parts::Date(DateType {
+        Type::Listed(Parts::Date(DateType {
             form,
             years,
             window,
-        });
-        Type { name, parts }
+        }))
     }
 
     // The type of a time with these settings.
     pub fn time(form: TimeForm) -> Type
         ensures { λ r. ⌜ r ≡ listed (Parts.Time (unlimitedTime form)) ⌝ }
     {
-        let name = Name::Listed;
-        let parts = Parts::Time(TimeType { form, hour24: true });
-        Type { name, parts }
+        Type::Listed(Parts::Time(TimeType { form, hour24: true }))
     }
 
     // The type of a date with a time with these settings.
     pub fn date_time(form: DateForm, years: Years, time: TimeForm) -> Type
         ensures { λ r. ⌜ r ≡ listed (Parts.DateTime (unlimitedDate form years) (unlimitedTime time)) ⌝ }
     {
-        let name = Name::Listed;
         let window = Window::Every;
         let date = DateType {
             form,
@@ -394,45 +303,94 @@ impl Type {
             form: time,
             hour24: true,
         };
-        let parts = Parts::DateTime(date, clock);
-        Type { name, parts }
+        Type::Listed(Parts::DateTime(date, clock))
+    }
+
+    // The name that stands for the type's settings, or that they are listed.
+    pub fn name(self) -> Name
+        ensures { λ r. ⌜ r ≡ nameOf self ⌝ }
+    {
+        match self {
+            Type::Listed(_) => Name::Listed,
+            Type::Date(_) => Name::Date,
+            Type::TimeOfDay(_) => Name::TimeOfDay,
+            Type::DateTime(_, _) => Name::DateTime,
+        }
+    }
+
+    // The settings, listed or those that the name stands for, with the restrictions.
+    pub fn settings(self) -> Parts
+        ensures { λ r. ⌜ r ≡ partsOf self ⌝ }
+    {
+        match self {
+            Type::Listed(parts) => parts,
+            Type::Date(w) => Parts::Date(with_window(w, YMD_BASIC)),
+            Type::TimeOfDay(h) => Parts::Time(with_hour24(h, HMS_LOCAL)),
+            Type::DateTime(w, h) => Parts::DateTime(
+                with_window(w, YMD_BASIC),
+                with_hour24(h, HMS_LOCAL),
+            ),
+        }
+    }
+
+    // The same type with these limits.
+    fn carry(self, limits: Limits) -> Type
+        ensures { λ r. ⌜ r ≡ carrying limits self ⌝ }
+    {
+        let window = limits.window;
+        let hour24 = limits.hour24;
+        match self {
+            Type::Listed(parts) => Type::Listed(restrict(limits, parts)),
+            Type::Date(_) => Type::Date(window),
+            Type::TimeOfDay(_) => Type::TimeOfDay(hour24),
+            Type::DateTime(_, _) => Type::DateTime(window, hour24),
+        }
     }
 
     // The type under these limits, in place of any that it has.
     pub fn limited(self, limits: Limits) -> TypeRead
         ensures { λ r. ⌜ r ≡ limitedTo limits self ⌝ }
     {
-        let name = self.name;
-        let parts = self.parts;
-        if !fits(limits, parts) {
+        let parts = self.settings();
+        if !has_place(limits, has_date(parts), has_time(parts)) {
             return TypeRead::Unreadable;
         }
-        let parts = restrict(limits, parts);
-        TypeRead::Type(Type { name, parts })
+        TypeRead::Type(self.carry(limits))
     }
 
     // Whether settings or a name can give the type.
     pub fn well_formed(self) -> bool
         ensures { λ r. ⌜ r ≡ wellFormed self ⌝ }
     {
-        let name = self.name;
-        let parts = self.parts;
-        well_parts(parts) && own_settings(name, parts)
+        match self {
+            Type::Listed(parts) => well_parts(parts),
+            Type::Date(_) => true,
+            Type::TimeOfDay(_) => true,
+            Type::DateTime(_, _) => true,
+        }
     }
 
     // The form of the texts of the type's values.
     pub fn form(self) -> Form
         ensures { λ r. ⌜ r ≡ formOf self ⌝ }
     {
-        let parts = self.parts;
-        form_of(parts)
+        match self {
+            Type::Listed(parts) => form_of(parts),
+            Type::Date(_) => Form::Date(DateForm::YMD),
+            Type::TimeOfDay(_) => Form::Time(HMS_L),
+            Type::DateTime(_, _) => Form::DateTime(DateForm::YMD, HMS_L),
+        }
     }
 
     // The number of fraction digits, 0 without a fraction.
     pub fn fraction_digits(self) -> u32
         ensures { λ r. ⌜ r ≡ fractionDigits self ⌝ }
     {
-        let parts = self.parts;
-        digits_of(parts)
+        match self {
+            Type::Listed(parts) => digits_of(parts),
+            Type::Date(_) => 0,
+            Type::TimeOfDay(_) => 0,
+            Type::DateTime(_, _) => 0,
+        }
     }
 }

@@ -16,7 +16,7 @@ use Rattle.types.specs.declared.types.TimeType.{TimeType}
 use Rattle.types.specs.declared.types.Parts.{Parts}
 use Rattle.types.specs.declared.types.«Type».{«Type» as Ty}
 use Rattle.texts.specs.Forms.{yearOf, valueForm}
-use Rattle.types.specs.Types.{formOf}
+use Rattle.types.specs.Types.{formOf, partsOf}
 use Rattle.values.specs.Forms.{sameForm}
 use Rattle.values.specs.Existence.{hoursOf, existsValue}
 
@@ -86,7 +86,7 @@ admits (Parts.DateTime date time) value = admitsDateOf date value && admitsTimeO
 
 -- "the canonical text is of the type's form", and the type admits the value.
 unfoldable pub inType : Ty → Value → Bool
-inType t value = sameForm (valueForm value) (formOf t) && admits (t .parts) value
+inType t value = sameForm (valueForm value) (formOf t) && admits (partsOf t) value
 
 -- "A type holds a value, one that exists by the rules below, when .."
 unfoldable pub holdsOf : Ty → Value → Bool

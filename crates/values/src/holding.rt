@@ -1,11 +1,11 @@
 ghost use mathlib.Core.Path.{_≡_};
 ghost use mathlib.Core.Bool.{_&&_};
 ghost use Rattle.calendar.specs.Years.{astronomicalOf};
-ghost use Rattle.texts.specs.Forms.{dateForm, clockForm, zoneForm, timeForm};
+ghost use Rattle.texts.specs.Forms.{dateForm, clockForm, valueForm, zoneForm, timeForm};
 ghost use Rattle.types.specs.Numbers.{dateNumber, clockNumber, zoneNumber};
 ghost use Rattle.types.specs.Types.{formOfParts, formOf};
-ghost use Rattle.values.specs.Forms.{sameDateForm, sameTimeForm};
-ghost use Rattle.values.specs.Holding.{between, inFive, inPlain, inSigned, inYears, inWindow, admitsDate, admitsTime, inType, holdsOf};
+ghost use Rattle.values.specs.Forms.{sameDateForm, sameForm, sameTimeForm};
+ghost use Rattle.values.specs.Holding.{between, inFive, inPlain, inSigned, inYears, inWindow, admits, admitsDate, admitsTime, inType, holdsOf};
 use crate::existence::hours;
 use crate::existence::value_exists;
 use calendar::Date;
@@ -188,11 +188,10 @@ fn time_in(t: TimeType, time: Time) -> bool
     hours(clock) != 24
 }
 
-// Whether a value is of the type's form, Year settings and restrictions.
-pub fn in_type(t: Type, value: Value) -> bool
-    ensures { λ r. ⌜ r ≡ inType t value ⌝ }
+// Whether a value is of the settings' form, Years and restrictions.
+fn in_parts(parts: Parts, value: Value) -> bool
+    ensures { λ r. ⌜ r ≡ (sameForm (valueForm value) (formOfParts parts) && admits parts value) ⌝ }
 {
-    let parts = t.parts;
     match parts {
         Parts::Date(d) => match value {
             Value::Date(date) => date_in(d, date),
@@ -210,6 +209,13 @@ pub fn in_type(t: Type, value: Value) -> bool
             Value::DateTime(date, time) => date_in(d, date) && time_in(u, time),
         },
     }
+}
+
+// Whether a value is of the type's form, Year settings and restrictions.
+pub fn in_type(t: Type, value: Value) -> bool
+    ensures { λ r. ⌜ r ≡ inType t value ⌝ }
+{
+    in_parts(t.settings(), value)
 }
 
 // Whether the type holds the value: it exists, and it is in the type.

@@ -1,6 +1,6 @@
-// What a program that deals in ASN.1 dates and times needs between a type's text and a value: types and their
-// texts, values and their texts, which values exist, which a type holds, and the answers and lent room of every
-// entry point. The parts stand in crates of their own, and all of them are passed on here.
+// What a program that deals in ASN.1 dates and times needs between a type and a value: types, values and their texts,
+// which values exist, which a type holds, and the answers and lent room of every entry point. The parts stand in
+// crates of their own, and all of them are passed on here; a type's text is read by `settings`.
 pub mod admission;
 pub mod existence;
 pub mod holding;
@@ -22,7 +22,6 @@ pub use holding::in_type;
 pub use printing::TEXT_CAPACITY;
 pub use printing::text_into;
 pub use reading::read_text;
-pub use settings::read_type;
 pub use texts::Clock;
 pub use texts::ClockForm;
 pub use texts::DateForm;

@@ -1,15 +1,15 @@
 -- Contents are the text without its separators, and these can be put back.
 use mathlib.Core.Path.{_≡_, refl, ap, _∙_}
-use mathlib.Core.Bool.{Bool, true, false, _&&_, _||_, not, cond, false≢true}
+use mathlib.Core.Bool.{Bool, true, false, cond, or-false, false≢true}
 use mathlib.Core.List.{List, [], _∷_, _++_, append-assoc, append-nil}
 use Prim.Native.Nat.{ℕ, zero, suc, _+_, _/_, _%_, _≤_, _<_}
 use native.Mathlib.Omega.{arith}
-use lib.Dec.{eqb, leb}
+use lib.Dec.{leb}
 use lib.IntN.{ℤ, pos, negsuc}
 use lib.ListN.{length, length-append, drop, getD, drop-of-length-le}
 use lib.Seq.{take-at, drop-at, drop-cons}
 use native.Mathlib.Numerals.{add-one}
-use borrow.Author.Tests.{eqb-true, leb-true, lt-ltb, ne-eqb}
+use borrow.Author.Tests.{leb-true, lt-ltb, ne-eqb}
 use Rattle.octets.proofs.Laws.Cases.{both}
 use Rattle.calendar.specs.Years.{astronomicalOf}
 use Rattle.calendar.specs.declared.dates.Date.{Date}
@@ -19,20 +19,18 @@ use Rattle.texts.specs.Forms.{clockForm, dateForm, timeForm, zoneForm, yearOf}
 use Rattle.texts.specs.Octets.{hyphen, colon, letterT}
 use Rattle.texts.specs.Times.{canonical, putClock, putFraction, putTime, putZone}
 use Rattle.texts.specs.Years.{yearText}
+use Rattle.texts.specs.declared.forms.ClockForm.{ClockForm}
 use Rattle.texts.specs.declared.forms.DateForm.{DateForm}
 use Rattle.texts.specs.declared.forms.TimeForm.{TimeForm}
+use Rattle.texts.specs.declared.forms.ZoneForm.{ZoneForm}
 use Rattle.texts.specs.declared.values.Clock.{Clock}
 use Rattle.texts.specs.declared.values.Time.{Time}
 use Rattle.texts.specs.declared.values.Zone.{Zone}
 use Rattle.texts.proofs.Laws.Digits.{is-digit, length-put}
-use Rattle.types.specs.Numbers.{clockNumber, dateNumber, zoneNumber}
-use Rattle.types.specs.Types.{basicAlone, basicYmd, localHms}
-use Rattle.types.specs.declared.types.DateType.{DateType}
+use Rattle.types.specs.Types.{hmsLocal, withWindow, ymdBasic}
 use Rattle.types.specs.declared.types.Name.{Name}
-use Rattle.types.specs.declared.types.TimeType.{TimeType}
-use Rattle.types.specs.declared.types.Years.{Years}
-use Rattle.values.specs.Holding.{admitsDate, between, inBasic, inProleptic, inYears}
-use Rattle.values.proofs.Laws.Existence.{three}
+use Rattle.types.specs.declared.types.Window.{Window}
+use Rattle.values.specs.Holding.{admitsDate, between, inBasic}
 use Rattle.values.proofs.Laws.Holding.{date-admitted}
 use Rattle.der.specs.Elements.{contentsOf, element, omits, tagOf, without}
 use Rattle.der.specs.Readings.{allDigits, separated}
@@ -137,50 +135,28 @@ unfolding between yearText
 basic-year (pos n) e = (n, simp (lt-ltb n 10000 (omega (arith, leb-true n 9999 (both (leb 1582 n) (leb n 9999) e .1)))))
 basic-year (negsuc k) e = absurd (false≢true e)
 
-basic-only : (years : Years) (y : ℤ) → basicAlone years ≡ true → inYears years y ≡ true → inBasic y ≡ true
-basic-only (Years.Plain names) y a i = go (names .basic) (names .proleptic) (inBasic y) (inProleptic y) a i
-  where
-    go : (a b d e : Bool) → (a && not b) ≡ true → ((a && d) || (b && e)) ≡ true → d ≡ true
-    go true false true e x i = refl
-    go true false false e x i = absurd (false≢true i)
-    go true true d e x i = absurd (false≢true x)
-    go false b d e x i = absurd (false≢true x)
-basic-only (Years.Signed names) y a i = absurd (false≢true a)
-
-pub date-fields : (t : DateType) (d : Date) → basicYmd t ≡ true → dateForm d ≡ t .form → admitsDate t d ≡ true
+pub date-fields : (w : Window) (d : Date) → dateForm d ≡ DateForm.YMD → admitsDate (withWindow w ymdBasic) d ≡ true
     → (n m k : ℕ) × (putDate d ≡ fieldsText hyphen 4 n m k)
 unfolding putDate putAfter
-date-fields t d b f e =
-    let p = both (eqb (dateNumber (t .form)) 3) (basicAlone (t .years)) b in
-    go d (eqb-true _ _ (p .0)) f (basic-only (t .years) _ (p .1) (date-admitted t d e .0))
-  where
-    other : {A : Type 0} (g : DateForm) → (dateNumber g ≡ 3 → ⊥) → dateNumber (t .form) ≡ 3 → g ≡ t .form → A
-    other g n e f = absurd (n (ap dateNumber f ∙ e))
+date-fields w (Date.YMD y m k) f e =
+    let q = basic-year (astronomicalOf y) (rw or-false at (date-admitted (withWindow w ymdBasic) (Date.YMD y m k) e .0)) in (q .0, m, k, rw (q .1))
+date-fields w (Date.Y y) f e = absurd (let z : _≡_ {A = ℕ} 0 1 = cc in omega arith)
+date-fields w (Date.YM y m) f e = absurd (let z : _≡_ {A = ℕ} 0 1 = cc in omega arith)
+date-fields w (Date.YD y k) f e = absurd (let z : _≡_ {A = ℕ} 0 1 = cc in omega arith)
+date-fields w (Date.YW y k) f e = absurd (let z : _≡_ {A = ℕ} 0 1 = cc in omega arith)
+date-fields w (Date.YWD y k m) f e = absurd (let z : _≡_ {A = ℕ} 0 1 = cc in omega arith)
 
-    go : (d : Date) → dateNumber (t .form) ≡ 3 → dateForm d ≡ t .form → inBasic (astronomicalOf (yearOf d)) ≡ true → (n m k : ℕ) × (putDate d ≡ fieldsText hyphen 4 n m k)
-    go (Date.YMD y m k) e f i = let q = basic-year (astronomicalOf y) i in (q .0, m, k, rw (q .1))
-    go (Date.Y y) e f i = other DateForm.Y (λ z. omega arith) e f
-    go (Date.YM y m) e f i = other DateForm.YM (λ z. omega arith) e f
-    go (Date.YD y k) e f i = other DateForm.YD (λ z. omega arith) e f
-    go (Date.YW y w) e f i = other DateForm.YW (λ z. omega arith) e f
-    go (Date.YWD y w k) e f i = other DateForm.YWD (λ z. omega arith) e f
-
-pub time-fields : (t : TimeType) (u : Time) → localHms t ≡ true → timeForm u ≡ t .form → (h m s : ℕ) × (putTime canonical u ≡ fieldsText colon 2 h m s)
+pub time-fields : (u : Time) → timeForm u ≡ hmsLocal .form → (h m s : ℕ) × (putTime canonical u ≡ fieldsText colon 2 h m s)
 unfolding putTime putClock putFraction putZone
-time-fields t u b f =
-    let p = three (eqb (clockNumber (t .form .clock)) 3) (eqb (t .form .digits) 0) (eqb (zoneNumber (t .form .zone)) 1) b in
-    let c : clockForm (u .clock) ≡ t .form .clock = ap (λ (g : TimeForm). g .clock) f in
-    let d : u .digits ≡ t .form .digits = ap (λ (g : TimeForm). g .digits) f in
-    let z : zoneForm (u .zone) ≡ t .form .zone = ap (λ (g : TimeForm). g .zone) f in
-    go (u .clock) refl (u .zone) refl (ap clockNumber c ∙ eqb-true _ _ (p .0)) (d ∙ eqb-true _ _ (p .1)) (ap zoneNumber z ∙ eqb-true _ _ (p .2))
+time-fields u f = go (u .clock) refl (u .zone) refl (ap (λ (g : TimeForm). g .clock) f) (ap (λ (g : TimeForm). g .digits) f) (ap (λ (g : TimeForm). g .zone) f)
   where
-    go : (c : Clock) → u .clock ≡ c → (z : Zone) → u .zone ≡ z → clockNumber (clockForm c) ≡ 3 → u .digits ≡ 0 → zoneNumber (zoneForm z) ≡ 1
+    go : (c : Clock) → u .clock ≡ c → (z : Zone) → u .zone ≡ z → clockForm (u .clock) ≡ ClockForm.HMS → u .digits ≡ 0 → zoneForm (u .zone) ≡ ZoneForm.L
         → (h m s : ℕ) × (putTime canonical u ≡ fieldsText colon 2 h m s)
     go (Clock.HMS h m s) c Zone.L z e d g = (h, m, s, simp (c, z, d, append-nil))
-    go (Clock.HMS h m s) c Zone.Z z e d g = absurd (omega arith)
-    go (Clock.HMS h m s) c (Zone.LD x) z e d g = absurd (omega arith)
-    go (Clock.H h) c y z e d g = absurd (omega arith)
-    go (Clock.HM h m) c y z e d g = absurd (omega arith)
+    go (Clock.HMS h m s) c Zone.Z z e d g = absurd (let y : _≡_ {A = ℕ} 0 1 = cc in omega arith)
+    go (Clock.HMS h m s) c (Zone.LD x) z e d g = absurd (let y : _≡_ {A = ℕ} 0 1 = cc in omega arith)
+    go (Clock.H h) c x z e d g = absurd (let y : _≡_ {A = ℕ} 0 1 = cc in omega arith)
+    go (Clock.HM h m) c x z e d g = absurd (let y : _≡_ {A = ℕ} 0 1 = cc in omega arith)
 
 -- ---- elements
 

@@ -1,6 +1,6 @@
 -- DER meets what is asked of a kind.
 use mathlib.Core.Path.{_≡_, refl, ap, sym, _∙_}
-use mathlib.Core.Bool.{true, cond, false≢true}
+use mathlib.Core.Bool.{true, cond}
 use mathlib.Core.List.{List, [], _∷_, _++_, append-nil}
 use Prim.Native.Nat.{ℕ, _+_, _≤_}
 use native.Mathlib.Omega.{arith}
@@ -21,14 +21,13 @@ use Rattle.texts.specs.Forms.{dateForm, timeForm, valueForm}
 use Rattle.texts.specs.Octets.{hyphen, colon, letterT}
 use Rattle.texts.specs.Texts.{readOf, render, textOf}
 use Rattle.texts.specs.Times.{canonical, putTime}
+use Rattle.texts.specs.declared.forms.DateForm.{DateForm}
 use Rattle.texts.specs.declared.forms.Form.{Form}
 use Rattle.texts.specs.declared.values.Time.{Time}
 use Rattle.texts.specs.declared.values.Value.{Value}
-use Rattle.types.specs.Types.{basicYmd, formOf, formOfParts, localHms, ownSettings, wellFormed, wellParts}
-use Rattle.types.specs.declared.types.DateType.{DateType}
+use Rattle.types.specs.Types.{formOf, hmsLocal, nameOf, partsOf, withWindow, ymdBasic}
 use Rattle.types.specs.declared.types.Name.{Name}
-use Rattle.types.specs.declared.types.Parts.{Parts}
-use Rattle.types.specs.declared.types.TimeType.{TimeType}
+use Rattle.types.specs.declared.types.Window.{Window}
 use Rattle.types.specs.declared.types.«Type».{«Type» as Ty}
 use Rattle.values.specs.Admission.{admitted, judged}
 use Rattle.values.specs.Existence.{existsValue}
@@ -41,7 +40,7 @@ use Rattle.kinds.specs.Lawful.{Accepted, Holds, Lawful}
 use Rattle.kinds.proofs.Laws.Coding as Coding
 use Rattle.encodings.specs.Encodings.{ofText}
 use Rattle.encodings.proofs.Laws.Encodings.{admissionAnswer, answerWith, decoded-short, encoded-admitted, judged-as, text-read}
-use Rattle.der.specs.Der.{der, derDecoded, derEncoded, inDer, nameOf, noBits}
+use Rattle.der.specs.Der.{der, derDecoded, derEncoded, inDer, noBits}
 use Rattle.der.specs.Elements.{contentsOf, element, elementOf, omits, tagOf, without}
 use Rattle.der.specs.Readings.{allDigits, digitsOnly, readContents, readElement}
 use Rattle.der.proofs.Laws.Contents.{date-fields, element-size, fields-all, fields-back, fields-kept, fields-length, fieldsDigits, time-fields, without-most, without-none}
@@ -94,31 +93,30 @@ fields-only w a b d =
 
 -- The contents of a value that a type holds give what its text does.
 module _ (form : Form) where
-  date-contents : (t : DateType) (d : Date) → basicYmd t ≡ true → dateForm d ≡ t .form → admitsDate t d ≡ true
+  date-contents : (w : Window) (d : Date) → dateForm d ≡ DateForm.YMD → admitsDate (withWindow w ymdBasic) d ≡ true
       → readContents Name.Date form (contentsOf Name.Date (putDate d)) ≡ ofText (readOf form (putDate d))
   unfolding contentsOf without
-  date-contents t d b f e =
-      let q = date-fields t d b f e in
+  date-contents w d f e =
+      let q = date-fields w d f e in
       let k : contentsOf Name.Date (putDate d) ≡ fieldsDigits 4 (q .0) (q .1) (q .2) =
       ap (contentsOf Name.Date) (q .3 ∙ sym (append-nil _)) ∙ fields-kept hyphen 4 (q .0) (q .1) (q .2) Name.Date [] refl ∙ append-nil _ in
       rw (k, fields-only 4 (q .0) (q .1) (q .2), fields-back hyphen 4 (q .0) (q .1) (q .2), q .3)
 
-  time-contents : (t : TimeType) (u : Time) → localHms t ≡ true → timeForm u ≡ t .form
+  time-contents : (u : Time) → timeForm u ≡ hmsLocal .form
       → readContents Name.TimeOfDay form (contentsOf Name.TimeOfDay (putTime canonical u)) ≡ ofText (readOf form (putTime canonical u))
   unfolding contentsOf without
-  time-contents t u b f =
-      let q = time-fields t u b f in
+  time-contents u f =
+      let q = time-fields u f in
       let k : contentsOf Name.TimeOfDay (putTime canonical u) ≡ fieldsDigits 2 (q .0) (q .1) (q .2) =
       ap (contentsOf Name.TimeOfDay) (q .3 ∙ sym (append-nil _)) ∙ fields-kept colon 2 (q .0) (q .1) (q .2) Name.TimeOfDay [] refl ∙ append-nil _ in
       rw (k, fields-only 2 (q .0) (q .1) (q .2), fields-back colon 2 (q .0) (q .1) (q .2), q .3)
 
-  date-time-contents : (t : DateType) (u : TimeType) (d : Date) (e : Time) → basicYmd t ≡ true → localHms u ≡ true → dateForm d ≡ t .form → timeForm e ≡ u .form
-      → admitsDate t d ≡ true
+  date-time-contents : (w : Window) (d : Date) (e : Time) → dateForm d ≡ DateForm.YMD → timeForm e ≡ hmsLocal .form → admitsDate (withWindow w ymdBasic) d ≡ true
       → readContents Name.DateTime form (contentsOf Name.DateTime (putDate d ++ letterT ∷ putTime canonical e)) ≡ ofText (readOf form (putDate d ++ letterT ∷ putTime canonical e))
   unfolding contentsOf without allDigits
-  date-time-contents t u d e b g f h a =
-      let q = date-fields t d b f a in
-      let r = time-fields u e g h in
+  date-time-contents w d e f h a =
+      let q = date-fields w d f a in
+      let r = time-fields e h in
       let x = fieldsDigits 4 (q .0) (q .1) (q .2) in
       let y = fieldsDigits 2 (r .0) (r .1) (r .2) in
       let y-kept : contentsOf Name.DateTime (putTime canonical e) ≡ y =
@@ -135,38 +133,31 @@ module _ (form : Form) where
       let back : drop 8 (x ++ y) ≡ y = drop-at x y 8 (fields-length 0 4 (q .0) (q .1) (q .2)) in
       rw (k, o, front, back, fields-back hyphen 4 (q .0) (q .1) (q .2), fields-back colon 2 (r .0) (r .1) (r .2), q .3, r .3)
 
-own-contents : (form : Form) (name : Name) (p : Parts) (v : Value) → ownSettings name p ≡ true → valueForm v ≡ formOfParts p → admits p v ≡ true
-    → readContents name form (contentsOf name (textOf v)) ≡ ofText (readOf form (textOf v))
+own-contents : (form : Form) (t : Ty) (v : Value) → valueForm v ≡ formOf t → admits (partsOf t) v ≡ true
+    → readContents (nameOf t) form (contentsOf (nameOf t) (textOf v)) ≡ ofText (readOf form (textOf v))
 unfolding contentsOf render
-own-contents form Name.Listed p v o f a = rw (without-none (textOf v))
-own-contents form Name.Date (Parts.Date t) (Value.Date d) o f a = date-contents form t d o (let g : dateForm d ≡ t .form = cc in g) a
-own-contents form Name.TimeOfDay (Parts.Time t) (Value.Time u) o f a = time-contents form t u o (let g : timeForm u ≡ t .form = cc in g)
-own-contents form Name.DateTime (Parts.DateTime t u) (Value.DateTime d e) o f a =
-    let p = both (basicYmd t) (localHms u) o in
-    date-time-contents form t u d e (p .0) (p .1) (let g : dateForm d ≡ t .form = cc in g) (let g : timeForm e ≡ u .form = cc in g)
-    (both (admitsDate t d) _ a .0)
-own-contents form Name.Date (Parts.Date t) (Value.Time u) o f a = absurd (let z : _≡_ {A = ℕ} 0 1 = cc in omega arith)
-own-contents form Name.Date (Parts.Date t) (Value.DateTime d u) o f a = absurd (let z : _≡_ {A = ℕ} 0 1 = cc in omega arith)
-own-contents form Name.Date (Parts.Time t) v o f a = absurd (false≢true o)
-own-contents form Name.Date (Parts.DateTime t u) v o f a = absurd (false≢true o)
-own-contents form Name.TimeOfDay (Parts.Date t) v o f a = absurd (false≢true o)
-own-contents form Name.TimeOfDay (Parts.Time t) (Value.Date d) o f a = absurd (let z : _≡_ {A = ℕ} 0 1 = cc in omega arith)
-own-contents form Name.TimeOfDay (Parts.Time t) (Value.DateTime d u) o f a = absurd (let z : _≡_ {A = ℕ} 0 1 = cc in omega arith)
-own-contents form Name.TimeOfDay (Parts.DateTime t u) v o f a = absurd (false≢true o)
-own-contents form Name.DateTime (Parts.Date t) v o f a = absurd (false≢true o)
-own-contents form Name.DateTime (Parts.Time t) v o f a = absurd (false≢true o)
-own-contents form Name.DateTime (Parts.DateTime t u) (Value.Date d) o f a = absurd (let z : _≡_ {A = ℕ} 0 1 = cc in omega arith)
-own-contents form Name.DateTime (Parts.DateTime t u) (Value.Time e) o f a = absurd (let z : _≡_ {A = ℕ} 0 1 = cc in omega arith)
+own-contents form (Ty.Listed p) v f a = rw (without-none (textOf v))
+own-contents form (Ty.Date w) (Value.Date d) f a = date-contents form w d (let g : dateForm d ≡ DateForm.YMD = cc in g) a
+own-contents form (Ty.TimeOfDay h) (Value.Time u) f a = time-contents form u (let g : timeForm u ≡ hmsLocal .form = cc in g)
+own-contents form (Ty.DateTime w h) (Value.DateTime d e) f a =
+    date-time-contents form w d e (let g : dateForm d ≡ DateForm.YMD = cc in g) (let g : timeForm e ≡ hmsLocal .form = cc in g)
+    (both (admitsDate (withWindow w ymdBasic) d) _ a .0)
+own-contents form (Ty.Date w) (Value.Time u) f a = absurd (let z : _≡_ {A = ℕ} 0 1 = cc in omega arith)
+own-contents form (Ty.Date w) (Value.DateTime d u) f a = absurd (let z : _≡_ {A = ℕ} 0 1 = cc in omega arith)
+own-contents form (Ty.TimeOfDay h) (Value.Date d) f a = absurd (let z : _≡_ {A = ℕ} 0 1 = cc in omega arith)
+own-contents form (Ty.TimeOfDay h) (Value.DateTime d u) f a = absurd (let z : _≡_ {A = ℕ} 0 1 = cc in omega arith)
+own-contents form (Ty.DateTime w h) (Value.Date d) f a = absurd (let z : _≡_ {A = ℕ} 0 1 = cc in omega arith)
+own-contents form (Ty.DateTime w h) (Value.Time e) f a = absurd (let z : _≡_ {A = ℕ} 0 1 = cc in omega arith)
 
 -- The element of a value that a type holds gives at every form, also at another than the type's, what the canonical text gives.
-pub element-gives : (t : Ty) (v : Value) → Holds der t v → (form : Form) → readElement (t .name) form (elementOf (t .name) v) ≡ ofText (readOf form (textOf v))
-unfolding elementOf wellFormed
+pub element-gives : (t : Ty) (v : Value) → Holds der t v → (form : Form) → readElement (nameOf t) form (elementOf (nameOf t) v) ≡ ofText (readOf form (textOf v))
+unfolding elementOf
 element-gives t v h form =
     let i = in-type t v (h .inside) in
-    element-read (t .name) form (contentsOf (t .name) (textOf v)) (let m = length-most (t .name) v (h .real) in omega arith)
-    ∙ own-contents form (t .name) (t .parts) v (both (wellParts (t .parts)) _ (h .formed) .1) (i .0) (i .1)
+    element-read (nameOf t) form (contentsOf (nameOf t) (textOf v)) (let m = length-most (nameOf t) v (h .real) in omega arith)
+    ∙ own-contents form t v (i .0) (i .1)
 
-octets-read : (t : Ty) (v : Value) → Holds der t v → readElement (t .name) (formOf t) (elementOf (t .name) v) ≡ some v
+octets-read : (t : Ty) (v : Value) → Holds der t v → readElement (nameOf t) (formOf t) (elementOf (nameOf t) v) ≡ some v
 octets-read t v h = element-gives t v h (formOf t) ∙ text-read inDer t v h canonical
 
 pub der-lawful : Lawful der
@@ -177,7 +168,7 @@ pub der-accepted : (t : Ty) (octets text : List ℕ) {bits : Bits} → derDecode
 der-accepted t octets text {bits} e = Coding.decoded-only der t octets text bits e
 
 -- Two values of one type never share an encoding.
-pub der-one-encoding : (t : Ty) (a b : Value) → Holds der t a → Holds der t b → elementOf (t .name) a ≡ elementOf (t .name) b → a ≡ b
+pub der-one-encoding : (t : Ty) (a b : Value) → Holds der t a → Holds der t b → elementOf (nameOf t) a ≡ elementOf (nameOf t) b → a ≡ b
 der-one-encoding t a b h k e = Coding.one-encoding der der-lawful t a b h k e
 
 -- ---- how long results are
@@ -186,8 +177,8 @@ der-one-encoding t a b h k e = Coding.one-encoding der der-lawful t a b h k e
 pub der-encoded-short : (t : Ty) (text result : List ℕ) (bits : Bits) → derEncoded t text ≡ done result bits → length result ≤ 55
 der-encoded-short t text result bits e =
     let x = Coding.encoded-only der t text result bits e in
-    let q : elementOf (t .name) (x .0) ≡ result = let r = x .3 in cc in
-    rw (← q) (element-most (t .name) (x .0) (x .1 .real))
+    let q : elementOf (nameOf t) (x .0) ≡ result = let r = x .3 in cc in
+    rw (← q) (element-most (nameOf t) (x .0) (x .1 .real))
 
 pub der-decoded-short : (t : Ty) (octets result : List ℕ) (bits : Bits) → derDecoded t octets ≡ done result bits → length result ≤ 52
 der-decoded-short = decoded-short inDer

@@ -21,7 +21,7 @@ use Rattle.lists.specs.Lists.{addPair, addPairs, complete, completed, datedList
 use Rattle.lists.specs.Words.{fractionNumber, pairOf, placeFrom}
 use Rattle.types.specs.Numbers.{clockAt, dateAt, zoneAt}
 use Rattle.settings.specs.TypeTexts.{allOf, distinct, equalLists, joined, listType, listsOf, member, oneRow, sameButYear, timeAt, typeOf, usable, yearFamily, yearsOf}
-use Rattle.types.specs.Types.{limitedTo, placed, wellFormed}
+use Rattle.types.specs.Types.{limitedTo, placed}
 use Rattle.values.specs.Existence.{existsClock, existsDifference, existsFraction, existsTime}
 use Rattle.values.specs.Forms.{sameDateForm, sameTimeForm}
 use Rattle.values.specs.Holding.{admitsDate, admitsTime, between, inType}
@@ -91,7 +91,7 @@ rows =
     []
 
 allRight : List Row → Bool
-unfolding upTo quotient remainder divisible monthLengthOf daysOfYears newYear weekOf weekOneOf weeksOf astronomicalOf yearAt leapOf yearLengthOf putAfter putDate getWeek getAfter getDate putDigits getDigits getField leading render getValue readUpTo putClock getAfterHours getClock putFraction getFraction putZone getMinutes getDifference getZone putTime getTime sizeIn yearDigits yearText signedFits getSigned getYear splitOn addPair addPairs datedList timedList complete completed listOf eqList placeFrom fractionNumber pairOf dateAt clockAt zoneAt listsOf sameButYear yearFamily oneRow equalLists allOf distinct usable member yearsOf timeAt listType joined typeOf placed limitedTo wellFormed existsClock existsFraction existsDifference existsTime sameDateForm sameTimeForm between admitsDate admitsTime inType bitsOf numberIn packed octetsOf unpacked half within fewest twos fromTwos binaryDigits width fieldBits layout fieldWidth bitCount _>>=_ aRanged aFree require readBits readRanged readFree run otherYear choiceOfYear yearFields dayFields dateFields clockFields longFraction fractionFields hoursField differenceFields zoneFields timeFields fieldsOf readChoice readYear readDay readDate readClock natural readExtended readFraction readMinutes differenceAt readZone readTime readValue readOctets judgedAs judgedText encoded compared judgedOctets decoded encodingOf countOf octetsFor spanTo without contentsOf element elementOf allDigits digitsOnly separated readElement hexDigit toHex hexNumber fromHex worked cutAgain replyOf answerOf entryNamed
+unfolding upTo quotient remainder divisible monthLengthOf daysOfYears newYear weekOf weekOneOf weeksOf astronomicalOf yearAt leapOf yearLengthOf putAfter putDate getWeek getAfter getDate putDigits getDigits getField leading render getValue readUpTo putClock getAfterHours getClock putFraction getFraction putZone getMinutes getDifference getZone putTime getTime sizeIn yearDigits yearText signedFits getSigned getYear splitOn addPair addPairs datedList timedList complete completed listOf eqList placeFrom fractionNumber pairOf dateAt clockAt zoneAt listsOf sameButYear yearFamily oneRow equalLists allOf distinct usable member yearsOf timeAt listType joined typeOf placed limitedTo existsClock existsFraction existsDifference existsTime sameDateForm sameTimeForm between admitsDate admitsTime inType bitsOf numberIn packed octetsOf unpacked half within fewest twos fromTwos binaryDigits width fieldBits layout fieldWidth bitCount _>>=_ aRanged aFree require readBits readRanged readFree run otherYear choiceOfYear yearFields dayFields dateFields clockFields longFraction fractionFields hoursField differenceFields zoneFields timeFields fieldsOf readChoice readYear readDay readDate readClock natural readExtended readFraction readMinutes differenceAt readZone readTime readValue readOctets judgedAs judgedText encoded compared judgedOctets decoded encodingOf countOf octetsFor spanTo without contentsOf element elementOf allDigits digitsOnly separated readElement hexDigit toHex hexNumber fromHex worked cutAgain replyOf answerOf entryNamed
 allRight [] = true
 allRight (line text zeros reply ∷ l) =
     eqList (replyOf (bytes text ++ replicate zeros 48)) (bytes reply ++ bytes "\n") && allRight l

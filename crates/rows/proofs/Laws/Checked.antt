@@ -21,7 +21,7 @@ use Rattle.texts.specs.declared.values.Time.{Time}
 use Rattle.texts.specs.declared.values.Value.{Value}
 use Rattle.texts.specs.declared.values.Zone.{Zone}
 use Rattle.types.specs.declared.types.DateType.{DateType}
-use Rattle.types.specs.declared.types.Name.{Name}
+use Rattle.types.specs.Types.{listed}
 use Rattle.types.specs.declared.types.Parts.{Parts}
 use Rattle.types.specs.declared.types.Window.{Window}
 use Rattle.types.specs.declared.types.Years.{Years}
@@ -74,10 +74,10 @@ abbrev datesOf : Years → Date → DateType
 datesOf years d = record { form = dateForm d; years = years; window = Window.Every }
 
 abbrev dateRow : Years → Date → YearRow
-dateRow years d = yearRowOf (record { name = Name.Listed; parts = Parts.Date (datesOf years d) })
+dateRow years d = yearRowOf (listed (Parts.Date (datesOf years d)))
 
 abbrev bothRow : Years → Date → Time → YearRow
-bothRow years d t = yearRowOf (record { name = Name.Listed; parts = Parts.DateTime (datesOf years d) (record { form = timeForm t; hour24 = true }) })
+bothRow years d t = yearRowOf (listed (Parts.DateTime (datesOf years d) (record { form = timeForm t; hour24 = true })))
 
 -- a row of years, or a type's Year settings, and a value, its octets and their bit count
 data Row : Type 0 where

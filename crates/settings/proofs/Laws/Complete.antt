@@ -1,5 +1,5 @@
 -- Completeness: every well-formed type that is no name is read from its settings, their pairs in any order.
-use mathlib.Core.Path.{_≡_, refl, _∙_}
+use mathlib.Core.Path.{_≡_, refl, ap, sym, _∙_}
 use mathlib.Core.List.{List, [], _∷_, map, List·Permᴰ, Permᴰ·refl}
 use mathlib.Core.Bool.{Bool, true, false, cond, and-eq-true-iff, or-true}
 use Prim.Native.Nat.{ℕ, _<_, _≤_}
@@ -7,14 +7,15 @@ use native.Mathlib.Omega.{arith}
 use lib.ListN.{length}
 use borrow.Author.Tests.{leb-true}
 use Rattle.octets.specs.Octets.{bytes, eqList}
-use Rattle.types.specs.Types.{listed, DATE, TIME-OF-DAY, DATE-TIME, everyYear, hasDate, hasTime, placed, restricted, limitedTo, limitsOf, someYear, fewDigits, wellParts, wellFormed}
+use Rattle.types.proofs.Laws.Limits.{carrying-kept}
+use Rattle.types.proofs.Laws.WellFormed.{well-settings}
+use Rattle.types.specs.Types.{listed, DATE, TIME-OF-DAY, DATE-TIME, everyYear, hasDate, hasTime, placed, restricted, limitedTo, limitsOf, someYear, fewDigits, wellParts, wellFormed, partsOf, carrying}
 use Rattle.settings.specs.TypeTexts.{allOf, joined, typeOf}
 use Rattle.settings.specs.Written.{YearSetting, basic, datePairs, timePairs, dateTimePairs, namedYears, listsFor, joinWith, typeText, Arranged, end, more}
 use Rattle.texts.specs.declared.forms.DateForm.{DateForm}
 use Rattle.texts.specs.declared.forms.TimeForm.{TimeForm}
 use Rattle.types.specs.declared.types.TimeType.{TimeType}
 use Rattle.types.specs.declared.types.Parts.{Parts}
-use Rattle.types.specs.declared.types.Name.{Name}
 use Rattle.types.specs.declared.types.«Type».{«Type»}
 use Rattle.types.specs.declared.types.Limits.{Limits}
 use Rattle.types.specs.declared.types.TypeRead.{TypeRead}
@@ -83,23 +84,18 @@ unfolding limitedTo
 own-limits p = rw (limits-placed p, limits-kept p)
 
 -- Every well-formed type that is no name is read from its settings, in any order, with its own limits.
-pub complete : (t : «Type») → wellFormed t ≡ true → t .name ≡ Name.Listed → {wss : List (List (List ℕ))} →
-    Arranged wss (listsFor (t .parts)) →
-    typeOf (limitsOf (t .parts)) (typeText wss) ≡ TypeRead.«Type» t
-unfolding wellFormed
-complete t h n r =
-    let p : (wellParts (t .parts) ≡ true) × _ = and-eq-true-iff _ _ .0 h in
-    settings-read (limitsOf (t .parts)) (t .parts) (p .0) r ∙ own-limits (t .parts) ∙ rw (← n)
+pub complete : (p : Parts) → wellFormed (listed p) ≡ true → {wss : List (List (List ℕ))} →
+    Arranged wss (listsFor p) →
+    typeOf (limitsOf p) (typeText wss) ≡ TypeRead.«Type» (listed p)
+complete p h r = settings-read (limitsOf p) p h r ∙ own-limits p
 
 -- .. and limits that have their place give the type under them.
 pub complete-limited : (limits : Limits) (t : «Type») → wellFormed t ≡ true →
-    placed limits (hasDate (t .parts)) (hasTime (t .parts)) ≡ true → {wss : List (List (List ℕ))} →
-    Arranged wss (listsFor (t .parts)) →
-    typeOf limits (typeText wss) ≡ TypeRead.«Type» (listed (restricted limits (t .parts)))
-unfolding wellFormed limitedTo
-complete-limited limits t h k r =
-    let p : (wellParts (t .parts) ≡ true) × _ = and-eq-true-iff _ _ .0 h in
-    settings-read limits (t .parts) (p .0) r ∙ rw k
+    placed limits (hasDate (partsOf t)) (hasTime (partsOf t)) ≡ true → {wss : List (List (List ℕ))} →
+    Arranged wss (listsFor (partsOf t)) →
+    typeOf limits (typeText wss) ≡ TypeRead.«Type» (listed (restricted limits (partsOf t)))
+unfolding limitedTo
+complete-limited limits t h k r = settings-read limits (partsOf t) (well-settings t h) r ∙ rw k
 
 -- Pairs may stand in their own order.
 pub in-order : (wss : List (List (List ℕ))) → Arranged wss wss
@@ -108,17 +104,17 @@ in-order (ws ∷ wss) = more (Permᴰ·refl ws) (in-order wss)
 
 -- The same type, listed as settings.
 abbrev pub relisted : TypeRead → TypeRead
-relisted (TypeRead.«Type» t) = TypeRead.«Type» (listed (t .parts))
+relisted (TypeRead.«Type» t) = TypeRead.«Type» (listed (partsOf t))
 relisted TypeRead.Unreadable = TypeRead.Unreadable
 relisted TypeRead.NoRow = TypeRead.NoRow
 
-limited-relisted : (limits : Limits) (t : «Type») → limitedTo limits (listed (t .parts)) ≡ relisted (limitedTo limits t)
+limited-relisted : (limits : Limits) (t : «Type») → limitedTo limits (listed (partsOf t)) ≡ relisted (limitedTo limits t)
 unfolding limitedTo
-limited-relisted limits t = go (placed limits (hasDate (t .parts)) (hasTime (t .parts))) where
+limited-relisted limits t = go (placed limits (hasDate (partsOf t)) (hasTime (partsOf t))) where
   go : (k : Bool) →
-      cond k (TypeRead.«Type» (listed (restricted limits (t .parts)))) TypeRead.Unreadable
-      ≡ relisted (cond k (TypeRead.«Type» (record { name = t .name; parts = restricted limits (t .parts) })) TypeRead.Unreadable)
-  go true = refl
+      cond k (TypeRead.«Type» (listed (restricted limits (partsOf t)))) TypeRead.Unreadable
+      ≡ relisted (cond k (TypeRead.«Type» (carrying limits t)) TypeRead.Unreadable)
+  go true = ap (λ (p : Parts). TypeRead.«Type» (listed p)) (sym (carrying-kept limits t .1))
   go false = refl
 
 -- "The names DATE, TIME-OF-DAY and DATE-TIME may stand for their settings": under any limits, a name's type and the type
@@ -129,7 +125,7 @@ pub name-settings : (limits : Limits) →
     × (typeOf limits (bytes "Basic=Date-Time Date=YMD Year=Basic Time=HMS Local-or-UTC=L") ≡ relisted (typeOf limits (bytes "DATE-TIME")))
 unfolding typeOf eqList typeText joinWith
 name-settings limits = (
-  settings-read limits (DATE .parts) refl (in-order (listsFor (DATE .parts))) ∙ limited-relisted limits DATE,
-  settings-read limits (TIME-OF-DAY .parts) refl (in-order (listsFor (TIME-OF-DAY .parts))) ∙ limited-relisted limits TIME-OF-DAY,
-  settings-read limits (DATE-TIME .parts) refl (in-order (listsFor (DATE-TIME .parts))) ∙ limited-relisted limits DATE-TIME,
+  settings-read limits (partsOf DATE) refl (in-order (listsFor (partsOf DATE))) ∙ limited-relisted limits DATE,
+  settings-read limits (partsOf TIME-OF-DAY) refl (in-order (listsFor (partsOf TIME-OF-DAY))) ∙ limited-relisted limits TIME-OF-DAY,
+  settings-read limits (partsOf DATE-TIME) refl (in-order (listsFor (partsOf DATE-TIME))) ∙ limited-relisted limits DATE-TIME,
 )

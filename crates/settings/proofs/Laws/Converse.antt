@@ -19,7 +19,7 @@ use Rattle.texts.specs.declared.forms.TimeForm.{TimeForm}
 use Rattle.types.specs.Numbers.{dateNumber, dateAt, zoneNumber}
 use Rattle.types.proofs.Laws.Limits.{limits-carried}
 use Rattle.types.proofs.Laws.Numbers.{date-back}
-use Rattle.types.specs.Types.{listed, unlimitedDate, unlimitedTime, DATE, TIME-OF-DAY, DATE-TIME, limitedTo, limitsOf, someYear, wellParts}
+use Rattle.types.specs.Types.{listed, unlimitedDate, unlimitedTime, DATE, TIME-OF-DAY, DATE-TIME, limitedTo, limitsOf, someYear, wellParts, partsOf}
 use Rattle.types.specs.declared.types.Limits.{Limits}
 use Rattle.types.specs.declared.types.Parts.{Parts}
 use Rattle.types.specs.declared.types.TypeRead.{TypeRead}
@@ -272,10 +272,10 @@ read-stands limits l t h = date-name (eqList l (bytes "DATE")) refl h
     date-name false e j = time-name (eqList l (bytes "TIME-OF-DAY")) refl j
 
 -- The type that is read carries the limits given beside its text, and no other restriction.
-pub read-limits : (limits : Limits) (l : List ℕ) (t : «Type») → typeOf limits l ≡ TypeRead.«Type» t → limitsOf (t .parts) ≡ limits
+pub read-limits : (limits : Limits) (l : List ℕ) (t : «Type») → typeOf limits l ≡ TypeRead.«Type» t → limitsOf (partsOf t) ≡ limits
 read-limits limits l t h = go (read-stands limits l t h)
   where
-    go : Stands limits t l → limitsOf (t .parts) ≡ limits
+    go : Stands limits t l → limitsOf (partsOf t) ≡ limits
     go (DATE-is e k) = limits-carried limits DATE t k
     go (TIME-OF-DAY-is e k) = limits-carried limits TIME-OF-DAY t k
     go (DATE-TIME-is e k) = limits-carried limits DATE-TIME t k

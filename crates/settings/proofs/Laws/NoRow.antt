@@ -8,7 +8,7 @@ use native.Mathlib.Omega.{arith}
 use Rattle.octets.specs.Octets.{bytes, eqList}
 use Rattle.octets.specs.Pieces.{splitOn}
 use Rattle.lists.specs.Lists.{yearIn, listOf}
-use Rattle.types.specs.Types.{DATE, TIME-OF-DAY, DATE-TIME, hasDate, hasTime, placed, restricted, limitedTo}
+use Rattle.types.specs.Types.{DATE, TIME-OF-DAY, DATE-TIME, hasDate, hasTime, carrying, limitedTo, partsOf, placed}
 use Rattle.lists.specs.declared.lists.Settings.{Settings}
 use Rattle.types.specs.declared.types.Limits.{Limits}
 use Rattle.types.specs.declared.types.TypeRead.{TypeRead}
@@ -71,9 +71,9 @@ module _ (limits : Limits) (l : List ℕ) (r : TwoRows limits l) where
 
 limited-not : (limits : Limits) (t : «Type») → limitedTo limits t ≡ TypeRead.NoRow → ⊥
 unfolding limitedTo
-limited-not limits t = go (placed limits (hasDate (t .parts)) (hasTime (t .parts)))
+limited-not limits t = go (placed limits (hasDate (partsOf t)) (hasTime (partsOf t)))
   where
-    go : (b : Bool) → cond b (TypeRead.«Type» (record { name = t .name; parts = restricted limits (t .parts) })) TypeRead.Unreadable ≡ TypeRead.NoRow → ⊥
+    go : (b : Bool) → cond b (TypeRead.«Type» (carrying limits t)) TypeRead.Unreadable ≡ TypeRead.NoRow → ⊥
     go true e = let z : _≡_ {A = ℕ} 0 1 = cc in omega arith
     go false e = let z : _≡_ {A = ℕ} 0 1 = cc in omega arith
 

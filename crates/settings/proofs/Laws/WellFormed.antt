@@ -11,13 +11,12 @@ use borrow.Author.Tests.{leb-true, le-leb, eqb-true, eqb-false, ne-eqb, not-true
 use Rattle.octets.specs.Octets.{bytes, eqList}
 use Rattle.octets.specs.Pieces.{splitOn}
 use Rattle.octets.proofs.Laws.Cases.{cond-le}
-use Rattle.types.specs.Types.{DATE, TIME-OF-DAY, DATE-TIME, hasDate, hasTime, placed, restricted, limitedTo, someYear, wellParts, ownSettings, wellFormed}
+use Rattle.types.specs.Types.{DATE, TIME-OF-DAY, DATE-TIME, hasDate, hasTime, placed, restricted, limitedTo, someYear, wellParts, wellFormed, partsOf, carrying}
 use Rattle.lists.specs.Words.{placeIn, yearWords, clockWords, fractionWords, withDigits, fractionNumber, firstNumber, pairOf}
 use Rattle.lists.specs.Lists.{settings, noneYet, refusedList, addPair, addPairs, basicIn, dateIn, yearIn, timeIn, zoneIn, datedList, timedList, presentIf, complete, completed, listOf}
 use Rattle.settings.specs.TypeTexts.{listsOf, allOf, usable, distinct, oneRow, member, yearsOf, timeAt, listType, joined, typeOf}
 use Rattle.types.specs.declared.types.Years.{Years}
 use Rattle.types.specs.declared.types.Parts.{Parts}
-use Rattle.types.specs.declared.types.Name.{Name}
 use Rattle.types.specs.declared.types.«Type».{«Type»}
 use Rattle.types.specs.declared.types.Limits.{Limits}
 use Rattle.types.specs.declared.types.TypeRead.{TypeRead}
@@ -155,7 +154,7 @@ unfolding timeAt
 digits-few t z h = le-leb (t / 10) 9 (omega arith)
 
 list-well-formed : (s : Settings) (ys : List ℕ) → Sound s → wellFormed (listType s (yearIn s ∷ ys)) ≡ true
-unfolding wellFormed listType
+unfolding listType
 list-well-formed s ys h = go (eqb (basicIn s) 1) (eqb (basicIn s) 2) refl refl where
   year : eqb (basicIn s) 2 ≡ false → someYear (yearsOf (yearIn s ∷ ys)) ≡ true
   year e = some-year (yearIn s) ys (dated-year s (h .all) e) (h .bounds .year)
@@ -181,30 +180,21 @@ good-cond : (k : Bool) (a b : TypeRead) → (k ≡ true → Good a) → Good b �
 good-cond true a b f g = f refl
 good-cond false a b f g = g
 
--- Limits change neither the settings nor the name.
+-- Limits change no setting.
 same-parts : (limits : Limits) (p : Parts) → wellParts (restricted limits p) ≡ wellParts p
 same-parts limits (Parts.Date d) = refl
 same-parts limits (Parts.Time t) = refl
 same-parts limits (Parts.DateTime d t) = refl
 
-same-own : (limits : Limits) (n : Name) (p : Parts) → ownSettings n (restricted limits p) ≡ ownSettings n p
-same-own limits Name.Listed p = refl
-same-own limits Name.Date (Parts.Date d) = refl
-same-own limits Name.Date (Parts.Time t) = refl
-same-own limits Name.Date (Parts.DateTime d t) = refl
-same-own limits Name.TimeOfDay (Parts.Date d) = refl
-same-own limits Name.TimeOfDay (Parts.Time t) = refl
-same-own limits Name.TimeOfDay (Parts.DateTime d t) = refl
-same-own limits Name.DateTime (Parts.Date d) = refl
-same-own limits Name.DateTime (Parts.Time t) = refl
-same-own limits Name.DateTime (Parts.DateTime d t) = refl
+same-well : (limits : Limits) (t : «Type») → wellFormed (carrying limits t) ≡ wellFormed t
+same-well limits («Type».Listed p) = same-parts limits p
+same-well limits («Type».Date w) = refl
+same-well limits («Type».TimeOfDay h) = refl
+same-well limits («Type».DateTime w h) = refl
 
 good-limited : (limits : Limits) (t : «Type») → wellFormed t ≡ true → Good (limitedTo limits t)
-unfolding limitedTo wellFormed
-good-limited limits t h =
-    good-cond (placed limits (hasDate (t .parts)) (hasTime (t .parts))) _ _
-    (λ e. rw (same-parts limits (t .parts), same-own limits (t .name) (t .parts)) h)
-    tt
+unfolding limitedTo
+good-limited limits t h = good-cond (placed limits (hasDate (partsOf t)) (hasTime (partsOf t))) _ _ (λ e. same-well limits t ∙ h) tt
 
 second : (a b c d e : Bool) → a && (b && c && d) && e ≡ true → b ≡ true
 second true true c d e h = refl
@@ -228,7 +218,7 @@ good-lists limits l = go (splitOn 124 l) where
   go (p ∷ ps) = good-joined limits (listOf p) (map listOf ps) (list-sound p)
 
 good : (limits : Limits) (l : List ℕ) → Good (typeOf limits l)
-unfolding typeOf wellFormed
+unfolding typeOf
 good limits l =
     good-cond (eqList l (bytes "DATE")) _ _ (λ e. good-limited limits DATE refl)
     (good-cond (eqList l (bytes "TIME-OF-DAY")) _ _ (λ e. good-limited limits TIME-OF-DAY refl)

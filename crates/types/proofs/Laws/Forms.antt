@@ -3,7 +3,7 @@ use mathlib.Core.Path.{_≡_, refl, ap}
 use Prim.Native.Nat.{ℕ}
 use native.Mathlib.Omega.{arith}
 use Rattle.texts.specs.Forms.{formDigits}
-use Rattle.types.specs.Types.{formOf, formOfParts, fractionDigits}
+use Rattle.types.specs.Types.{digitsOfParts, formOf, formOfParts, fractionDigits, partsOf}
 use Rattle.types.specs.declared.types.DateType.{DateType}
 use Rattle.types.specs.declared.types.Parts.{Parts}
 use Rattle.types.specs.declared.types.TimeType.{TimeType}
@@ -36,9 +36,9 @@ settings-form p q (date-time f g) = rw (f, g)
 
 -- "A type's number of fraction digits is n": its texts show it.
 pub digits-shown : (t : «Type») → formDigits (formOf t) ≡ fractionDigits t
-digits-shown t = go (t .parts)
+digits-shown t = go (partsOf t)
   where
-    go : (p : Parts) → formDigits (formOfParts p) ≡ fractionDigits (record { name = t .name; parts = p })
+    go : (p : Parts) → formDigits (formOfParts p) ≡ digitsOfParts p
     go (Parts.Date d) = refl
     go (Parts.Time u) = refl
     go (Parts.DateTime d u) = refl

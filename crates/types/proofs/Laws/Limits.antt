@@ -4,7 +4,7 @@ use mathlib.Core.Bool.{Bool, true, false, cond, _&&_, _||_}
 use Prim.Native.Nat.{ℕ}
 use native.Mathlib.Omega.{arith}
 use Rattle.calendar.specs.declared.years.Year.{Year}
-use Rattle.types.specs.Types.{everyYear, hasDate, hasTime, limitedTo, limitsOf, noLimits, placed, restricted, typeNumber}
+use Rattle.types.specs.Types.{carrying, everyYear, hasDate, hasTime, limitedTo, limitsOf, nameOf, noLimits, partsOf, placed, restricted, typeNumber}
 use Rattle.types.specs.Types.{listed, unlimitedDate, unlimitedTime}
 use Rattle.texts.specs.declared.forms.DateForm.{DateForm}
 use Rattle.texts.specs.declared.forms.TimeForm.{TimeForm}
@@ -29,31 +29,41 @@ pub data Carried (limits : Limits) : Parts → Parts → Type 0 where
 
 -- What a type gives under limits, and why.
 pub data WhyLimited (limits : Limits) (t : «Type») : TypeRead → Type 0 where
-  carried : (p q : Parts) → t .parts ≡ p → Carried limits p q → WhyLimited limits t (TypeRead.«Type» (record { name = t .name; parts = q }))
+  carried : (u : «Type») (p q : Parts) → nameOf u ≡ nameOf t → partsOf t ≡ p → partsOf u ≡ q → Carried limits p q → WhyLimited limits t (TypeRead.«Type» u)
   -- "a lowest and a highest year (only where there is a date, else refusal 1)"
-  no-date : (lowest highest : Year) (u : TimeType) → limits .window ≡ Window.Within lowest highest → t .parts ≡ Parts.Time u
+  no-date : (lowest highest : Year) (u : TimeType) → limits .window ≡ Window.Within lowest highest → partsOf t ≡ Parts.Time u
       → WhyLimited limits t TypeRead.Unreadable
   -- ""no hour 24" (only where there is a time, else refusal 1)"
-  no-time : (d : DateType) → limits .hour24 ≡ false → t .parts ≡ Parts.Date d → WhyLimited limits t TypeRead.Unreadable
+  no-time : (d : DateType) → limits .hour24 ≡ false → partsOf t ≡ Parts.Date d → WhyLimited limits t TypeRead.Unreadable
+
+-- Limits leave the name, and the settings but for the restrictions.
+pub carrying-kept : (limits : Limits) (t : «Type»)
+    → (nameOf (carrying limits t) ≡ nameOf t) × (partsOf (carrying limits t) ≡ restricted limits (partsOf t))
+carrying-kept limits («Type».Listed p) = (refl, refl)
+carrying-kept limits («Type».Date w) = (refl, refl)
+carrying-kept limits («Type».TimeOfDay h) = (refl, refl)
+carrying-kept limits («Type».DateTime w h) = (refl, refl)
 
 pub limited-why : (limits : Limits) (t : «Type») → WhyLimited limits t (limitedTo limits t)
 unfolding limitedTo placed
-limited-why limits t = go (t .parts) refl (limits .window) refl (limits .hour24) refl
+limited-why limits t = go (partsOf t) refl (limits .window) refl (limits .hour24) refl
   where
-    go : (p : Parts) → t .parts ≡ p → (w : Window) → limits .window ≡ w → (h : Bool) → limits .hour24 ≡ h
-        → WhyLimited limits t
-        (cond ((everyYear w || hasDate p) && (h || hasTime p)) (TypeRead.«Type» (record { name = t .name; parts = restricted limits p })) TypeRead.Unreadable)
-    go (Parts.Date d) e Window.Every f true g = carried _ _ e (date d g)
-    go (Parts.Date d) e (Window.Within lowest highest) f true g = carried _ _ e (date d g)
+    so : {p : Parts} → partsOf t ≡ p → Carried limits p (restricted limits p) → WhyLimited limits t (TypeRead.«Type» (carrying limits t))
+    so e k = let c = carrying-kept limits t in carried (carrying limits t) _ _ (c .0) e (c .1 ∙ ap (restricted limits) e) k
+
+    go : (p : Parts) → partsOf t ≡ p → (w : Window) → limits .window ≡ w → (h : Bool) → limits .hour24 ≡ h
+        → WhyLimited limits t (cond ((everyYear w || hasDate p) && (h || hasTime p)) (TypeRead.«Type» (carrying limits t)) TypeRead.Unreadable)
+    go (Parts.Date d) e Window.Every f true g = so e (date d g)
+    go (Parts.Date d) e (Window.Within lowest highest) f true g = so e (date d g)
     go (Parts.Date d) e Window.Every f false g = no-time d g e
     go (Parts.Date d) e (Window.Within lowest highest) f false g = no-time d g e
-    go (Parts.Time u) e Window.Every f true g = carried _ _ e (time u f)
-    go (Parts.Time u) e Window.Every f false g = carried _ _ e (time u f)
+    go (Parts.Time u) e Window.Every f true g = so e (time u f)
+    go (Parts.Time u) e Window.Every f false g = so e (time u f)
     go (Parts.Time u) e (Window.Within lowest highest) f h g = no-date lowest highest u f e
-    go (Parts.DateTime d u) e Window.Every f true g = carried _ _ e (date-time d u)
-    go (Parts.DateTime d u) e Window.Every f false g = carried _ _ e (date-time d u)
-    go (Parts.DateTime d u) e (Window.Within lowest highest) f true g = carried _ _ e (date-time d u)
-    go (Parts.DateTime d u) e (Window.Within lowest highest) f false g = carried _ _ e (date-time d u)
+    go (Parts.DateTime d u) e Window.Every f true g = so e (date-time d u)
+    go (Parts.DateTime d u) e Window.Every f false g = so e (date-time d u)
+    go (Parts.DateTime d u) e (Window.Within lowest highest) f true g = so e (date-time d u)
+    go (Parts.DateTime d u) e (Window.Within lowest highest) f false g = so e (date-time d u)
 
 same-limits : (limits : Limits) (w : Window) (h : Bool) → limits .window ≡ w → limits .hour24 ≡ h → record { window = w; hour24 = h } ≡ limits
 same-limits limits w h e f = λ i. record { window = sym e i; hour24 = sym f i }
@@ -64,24 +74,24 @@ limits-of limits p q (time t w) = same-limits limits Window.Every (limits .hour2
 limits-of limits p q (date-time d t) = same-limits limits (limits .window) (limits .hour24) refl refl
 
 abbrev partsIn : Parts → TypeRead → Parts
-partsIn p (TypeRead.«Type» t) = t .parts
+partsIn p (TypeRead.«Type» t) = partsOf t
 partsIn p TypeRead.Unreadable = p
 partsIn p TypeRead.NoRow = p
 
 -- A type under limits carries exactly these.
-pub limits-carried : (limits : Limits) (u t : «Type») → limitedTo limits u ≡ TypeRead.«Type» t → limitsOf (t .parts) ≡ limits
+pub limits-carried : (limits : Limits) (u t : «Type») → limitedTo limits u ≡ TypeRead.«Type» t → limitsOf (partsOf t) ≡ limits
 limits-carried limits u t = go (limitedTo limits u) (limited-why limits u)
   where
-    go : (r : TypeRead) → WhyLimited limits u r → r ≡ TypeRead.«Type» t → limitsOf (t .parts) ≡ limits
-    go r (carried p q i k) e = ap (λ (x : TypeRead). limitsOf (partsIn q x)) (sym e) ∙ limits-of limits p q k
+    go : (r : TypeRead) → WhyLimited limits u r → r ≡ TypeRead.«Type» t → limitsOf (partsOf t) ≡ limits
+    go r (carried v p q n i j k) e = ap (λ (x : TypeRead). limitsOf (partsIn q x)) (sym e) ∙ ap limitsOf j ∙ limits-of limits p q k
     go r (no-date lowest highest v w i) e = absurd (let z : _≡_ {A = ℕ} 0 1 = cc in omega arith)
     go r (no-time d h i) e = absurd (let z : _≡_ {A = ℕ} 0 1 = cc in omega arith)
 
 -- What `Type::date`, `Type::time` and `Type::date_time` give carries no limits.
 pub built-unlimited : (f : DateForm) (y : Years) (t : TimeForm)
-    → (limitsOf (listed (Parts.Date (unlimitedDate f y)) .parts) ≡ noLimits)
-    × (limitsOf (listed (Parts.Time (unlimitedTime t)) .parts) ≡ noLimits)
-    × (limitsOf (listed (Parts.DateTime (unlimitedDate f y) (unlimitedTime t)) .parts) ≡ noLimits)
+    → (limitsOf (partsOf (listed (Parts.Date (unlimitedDate f y)))) ≡ noLimits)
+    × (limitsOf (partsOf (listed (Parts.Time (unlimitedTime t)))) ≡ noLimits)
+    × (limitsOf (partsOf (listed (Parts.DateTime (unlimitedDate f y) (unlimitedTime t)))) ≡ noLimits)
 built-unlimited f y t = (refl, refl, refl)
 
 -- No limits: every year, and hour 24.

@@ -27,7 +27,7 @@ use Rattle.texts.specs.declared.texts.TextRead.{TextRead}
 use Rattle.texts.specs.declared.values.Spelling.{Spelling}
 use Rattle.texts.specs.declared.values.Time.{Time}
 use Rattle.texts.specs.declared.values.Value.{Value}
-use Rattle.types.specs.Types.{formOf, formOfParts, wellFormed}
+use Rattle.types.specs.Types.{formOf, formOfParts, wellFormed, partsOf}
 use Rattle.types.specs.declared.types.DateType.{DateType}
 use Rattle.types.specs.declared.types.Parts.{Parts}
 use Rattle.types.specs.declared.types.TimeType.{TimeType}
@@ -69,7 +69,7 @@ pub data Admitted : Parts → Value → Type 0 where
 pub record Holding (t : Ty) (v : Value) : Type 0 where
   pub exists : ValueExists v
   pub form : textNumber (readOf (formOf t) (textOf v)) ≡ 0
-  pub admitted-is : Admitted (t .parts) v
+  pub admitted-is : Admitted (partsOf t) v
 
 -- ---- from the tests to the words
 
@@ -168,14 +168,14 @@ module _ (t : Ty) (v : Value) where
   holding e =
       let p = held t v e in
       let q = in-type t v (p .1) in
-      record { exists = value-exists v (p .0); form = ap textNumber (held-read t v e canonical); admitted-is = admitted-words (t .parts) v (q .0) (q .1) }
+      record { exists = value-exists v (p .0); form = ap textNumber (held-read t v e canonical); admitted-is = admitted-words (partsOf t) v (q .0) (q .1) }
 
   -- .. and the other way about.
   pub holds : Holding t v → holdsOf t v ≡ true
   holds h =
       let x = exists-value v (h .exists) in
-      let f = form-shown t v x (short-year (t .parts) v (h .admitted-is)) (h .form) in
-      holds-both t v x (of-form t v f ∙ admitted-tests (t .parts) v (h .admitted-is))
+      let f = form-shown t v x (short-year (partsOf t) v (h .admitted-is)) (h .form) in
+      holds-both t v x (of-form t v f ∙ admitted-tests (partsOf t) v (h .admitted-is))
 
 -- ---- the causes of what is judged
 
@@ -217,6 +217,10 @@ module _ (t : Ty) (v : Value) where
 given-number : (v : Value) (j : Judgement) → admissionNumber (givenAs v j) ≡ judgementNumber j
 given-number v Judgement.Held = refl
 given-number v (Judgement.Refused why) = refl
+
+-- The number of a text that gives a value is 0.
+pub given-told : (v : Value) → admissionNumber (Admission.Value v) ≡ 0
+given-told v = refl
 
 module _ (t : Ty) (l : List ℕ) where
   pub admission-why : WhyAdmitted t l (admissionNumber (admitted t l))

@@ -15,7 +15,7 @@ use Rattle.calendar.specs.declared.dates.Date.{Date}
 use Rattle.answers.specs.declared.refusals.Refusal.{Refusal}
 use Rattle.printing.proofs.Laws.Canonical.{can-print, text-front, text-length, text-size}
 use Rattle.printing.specs.Canonical.{bufferWith, textCapacity, lengthIn, printable}
-use Rattle.types.specs.Types.{formOf, formOfParts, wellFormed}
+use Rattle.types.specs.Types.{formOf, formOfParts, wellFormed, partsOf}
 use Rattle.types.specs.declared.types.DateType.{DateType}
 use Rattle.types.specs.declared.types.Parts.{Parts}
 use Rattle.types.specs.declared.types.«Type».{«Type» as Ty}
@@ -128,7 +128,7 @@ module _ (t : Ty) (v : Value) (h : holdsOf t v ≡ true) where
   held-fits =
       let p = held t v h in
       let q = in-type t v (p .1) in
-      exists-fits longestYear v (p .0) (admits-short (t .parts) v (q .0) (q .1))
+      exists-fits longestYear v (p .0) (admits-short (partsOf t) v (q .0) (q .1))
 
   -- Any text of a value that the type holds is read at the type's form as that value.
   pub held-read : (s : Spelling) → readOf (formOf t) (render s v) ≡ TextRead.Value v (shownIn s v)

@@ -26,7 +26,7 @@ use Rattle.types.specs.declared.types.«Type».{«Type» as Ty}
 use Rattle.texts.specs.Forms.{dateForm, timeForm, valueForm}
 use Rattle.types.specs.Numbers.{dateNumber, dateAt, clockNumber, clockAt, zoneNumber, zoneAt}
 use Rattle.types.proofs.Laws.Numbers.{date-back, clock-back, zone-back}
-use Rattle.types.specs.Types.{formOfParts, formOf}
+use Rattle.types.specs.Types.{formOfParts, formOf, partsOf}
 use Rattle.values.specs.Forms.{sameDateForm, sameTimeForm, sameForm}
 use Rattle.values.specs.Existence.{hoursOf, existsValue}
 use Rattle.texts.specs.Forms.{yearOf}
@@ -90,11 +90,11 @@ crossed true false true e = refl
 crossed true false false e = refl
 crossed false b d e = refl
 
--- A date with a time is in a type where the date is in its date part and the time in its time part.
-module _ (t : Ty) (value : Value) {d : DateType} {u : TimeType} {date : Date} {time : Time} where
-  pub date-time-in : t .parts ≡ Parts.DateTime d u → value ≡ Value.DateTime date time
-      → inType t value ≡ (sameDateForm (dateForm date) (d .form) && admitsDate d date && (sameTimeForm (timeForm time) (u .form) && admitsTime u time))
-  unfolding inType
+-- A date with a time is of a type's settings where the date is of its date's and the time of its time's.
+module _ (parts : Parts) (value : Value) {d : DateType} {u : TimeType} {date : Date} {time : Time} where
+  pub date-time-in : parts ≡ Parts.DateTime d u → value ≡ Value.DateTime date time
+      → (sameForm (valueForm value) (formOfParts parts) && admits parts value)
+      ≡ (sameDateForm (dateForm date) (d .form) && admitsDate d date && (sameTimeForm (timeForm time) (u .form) && admitsTime u time))
   date-time-in p v = simp (p, v) (crossed (sameDateForm (dateForm date) (d .form)) (sameTimeForm (timeForm time) (u .form)) (admitsDate d date) (admitsTime u time))
 
 -- What a type holds exists, and is in the type, ..
@@ -108,14 +108,14 @@ module _ (t : Ty) (value : Value) where
   holds-both e i = simp (e, i)
 
   -- .. so that the value's form is the type's.
-  pub in-type : inType t value ≡ true → (valueForm value ≡ formOf t) × (admits (t .parts) value ≡ true)
+  pub in-type : inType t value ≡ true → (valueForm value ≡ formOf t) × (admits (partsOf t) value ≡ true)
   unfolding inType
   in-type e =
-      let p = both (sameForm (valueForm value) (formOf t)) (admits (t .parts) value) e in
+      let p = both (sameForm (valueForm value) (formOf t)) (admits (partsOf t) value) e in
       (same-form (valueForm value) (formOf t) (p .0), p .1)
 
   -- A value of the type's form is in the type where the type admits it.
-  pub of-form : valueForm value ≡ formOf t → inType t value ≡ admits (t .parts) value
+  pub of-form : valueForm value ≡ formOf t → inType t value ≡ admits (partsOf t) value
   unfolding inType
   of-form e = simp (form-same (valueForm value) (formOf t) e)
 
@@ -170,13 +170,13 @@ module _ (lowest highest : Year) (above : ltZ (astronomicalOf highest) (astronom
   no-value (Parts.DateTime t u) (Value.DateTime date time) w f e = no-date t date w (both (admitsDate t date) (admitsTime u time) e .0)
 
   -- "A lowest year above the highest makes a type with no values."
-  pub window-empty : (t : Ty) → windowOf (t .parts) ≡ Window.Within lowest highest → (value : Value) → holdsOf t value ≡ false
+  pub window-empty : (t : Ty) → windowOf (partsOf t) ≡ Window.Within lowest highest → (value : Value) → holdsOf t value ≡ false
   unfolding inType
   window-empty t w value =
       unheld (holdsOf t value)
       (λ e.
-      let p = both (sameForm (valueForm value) (formOf t)) (admits (t .parts) value) (held t value e .1) in
-      no-value (t .parts) value w (p .0) (p .1))
+      let p = both (sameForm (valueForm value) (formOf t)) (admits (partsOf t) value) (held t value e .1) in
+      no-value (partsOf t) value w (p .0) (p .1))
 
 -- The four Year settings: ..
 pub data Setting : Type 0 where

@@ -1,5 +1,6 @@
 -- `decoding::compare` meets its contract: the octets are the value's own, or they are refused.
 use mathlib.Core.Path.{_≡_, refl, sym, _∙_}
+use Prim.Native.Nat.{_≤_}
 use native.Mathlib.Omega.{arith}
 use lib.ListN.{length, take}
 use lib.Seq.{length-take-le}
@@ -8,11 +9,16 @@ use Rattle.answers.specs.Outcomes.{outcomeOf, roomOf}
 use Rattle.kinds.specs.Coding.{compared}
 use Rattle.printing.specs.Canonical.{textCapacity}
 use Rattle.texts.specs.Texts.{textOf}
+use Rattle.types.specs.Types.{nameOf}
 use Rattle.values.proofs.Laws.Existing.{printed-text, text-short, text-taken}
+use Rattle.der.specs.Elements.{elementOf}
 use Rattle.der.proofs.Laws.Der.{own-element}
 use borrow.Author.Needs.{needs}
 use Rattle.der.proofs.decoding.compare.Statement.{statement}
 use Rattle.der.proofs.decoding.compare.Tie as tie
+
+name-requires : tie.Need-name-requires
+name-requires c κs = search needs
 
 slice-aggregate-text-into : tie.Need-slice-aggregate-text-into
 slice-aggregate-text-into c = search needs
@@ -32,11 +38,34 @@ slice-aggregate-write-element-2 c = search needs
 write-element-requires : tie.Need-write-element-requires
 write-element-requires c κs = let w : length (c .before .before .before .text-into .last .1 .0) ≡ textCapacity = search needs in let k = text-short _ _ (omega arith) (c .before .before .before .text-into .ensures .0) in let e = length-take-le (c .before .before .before .text-into .result) (c .before .before .before .text-into .last .1 .0) (omega arith) in omega arith
 
+-- The text is the value's, ..
+printed : (k : tie.After-text-into) → take (k .text-into .result) (k .text-into .last .1 .0) ≡ textOf (k .before .before .before .before .before .args .value)
+printed k =
+    let start = k .before .before .before .before .before in
+    text-taken _ _ (omega arith) (k .text-into .ensures .0) (k .text-into .ensures .1) ∙ printed-text (start .args .value) (start .pre)
+
+-- .. and what is written is its element.
+written : (k : tie.After-write-element)
+    → (k .write-element .result .length .count ≤ 55)
+    × (take (k .write-element .result .length .count) (k .write-element .last .1 .1 .0) ≡ elementOf (nameOf (k .before .before .before .before .before .before .before .before .before .args .t)) (k .before .before .before .before .before .before .before .before .before .args .value))
+written k =
+    let text = k .before .before .before .before in
+    let start = text .before .before .before .before .before in
+    rw (← text .before .before .name .ensures)
+    (own-element (text .before .before .name .result) (start .args .value) _ _ _ _ (start .pre) (printed text) (omega arith) (k .write-element .ensures .0) (k .write-element .ensures .1))
+
 array-share-prefix-own : tie.Need-array-share-prefix-own
-array-share-prefix-own c = let q : take (c .before .before .before .before .before .text-into .result) (c .before .before .before .before .before .text-into .last .1 .0) ≡ textOf (c .before .before .before .before .before .before .before .before .before .args .value) = text-taken _ _ (omega arith) (c .before .before .before .before .before .text-into .ensures .0) (c .before .before .before .before .before .text-into .ensures .1) ∙ printed-text (c .before .before .before .before .before .before .before .before .before .args .value) (c .before .before .before .before .before .before .before .before .before .pre) in let e = own-element (c .before .before .before .before .before .before .before .before .before .args .t .name) (c .before .before .before .before .before .before .before .before .before .args .value) _ _ _ _ (c .before .before .before .before .before .before .before .before .before .pre) q (omega arith) (c .before .write-element .ensures .0) (c .before .write-element .ensures .1) in let w : length (c .before .write-element .last .1 .1 .0) ≡ textCapacity = search needs in omega arith
+array-share-prefix-own c =
+    let e = written (c .before) in
+    let w : length (c .before .write-element .last .1 .1 .0) ≡ textCapacity = search needs in
+    omega arith
 
 slice-aggregate-same : tie.Need-slice-aggregate-same
-slice-aggregate-same c = sym (length-take-le _ _ (let q : take (c .before .before .before .before .before .before .text-into .result) (c .before .before .before .before .before .before .text-into .last .1 .0) ≡ textOf (c .before .before .before .before .before .before .before .before .before .before .args .value) = text-taken _ _ (omega arith) (c .before .before .before .before .before .before .text-into .ensures .0) (c .before .before .before .before .before .before .text-into .ensures .1) ∙ printed-text (c .before .before .before .before .before .before .before .before .before .before .args .value) (c .before .before .before .before .before .before .before .before .before .before .pre) in let e = own-element (c .before .before .before .before .before .before .before .before .before .before .args .t .name) (c .before .before .before .before .before .before .before .before .before .before .args .value) _ _ _ _ (c .before .before .before .before .before .before .before .before .before .before .pre) q (omega arith) (c .before .before .write-element .ensures .0) (c .before .before .write-element .ensures .1) in let w : length (c .before .before .write-element .last .1 .1 .0) ≡ textCapacity = search needs in omega arith))
+slice-aggregate-same c =
+    sym (length-take-le _ _
+    (let e = written (c .before .before) in
+    let w : length (c .before .before .write-element .last .1 .1 .0) ≡ textCapacity = search needs in
+    omega arith))
 
 same-requires : tie.Need-same-requires
 same-requires c κs = search needs
@@ -46,7 +75,7 @@ refused-requires c κs = search needs
 
 returns : tie.Need-returns
 unfolding compared outcomeOf roomOf
-returns c = let q : take (c .before .before .before .before .before .before .before .before .before .text-into .result) (c .before .before .before .before .before .before .before .before .before .text-into .last .1 .0) ≡ textOf (c .before .before .before .before .before .before .before .before .before .before .before .before .before .args .value) = text-taken _ _ (omega arith) (c .before .before .before .before .before .before .before .before .before .text-into .ensures .0) (c .before .before .before .before .before .before .before .before .before .text-into .ensures .1) ∙ printed-text (c .before .before .before .before .before .before .before .before .before .before .before .before .before .args .value) (c .before .before .before .before .before .before .before .before .before .before .before .before .before .pre) in let e = own-element (c .before .before .before .before .before .before .before .before .before .before .before .before .before .args .t .name) (c .before .before .before .before .before .before .before .before .before .before .before .before .before .args .value) _ _ _ _ (c .before .before .before .before .before .before .before .before .before .before .before .before .before .pre) q (omega arith) (c .before .before .before .before .before .write-element .ensures .0) (c .before .before .before .before .before .write-element .ensures .1) in rw (← e .1, sym (c .before .before .same .ensures) ∙ not-true _ (c .before .if1 .taken)) (c .refused .ensures, refl)
+returns c = rw (← written (c .before .before .before .before .before) .1, sym (c .before .before .same .ensures) ∙ not-true _ (c .before .if1 .taken)) (c .refused .ensures, refl)
 
 array-share-prefix-text-2 : tie.Need-array-share-prefix-text-2
 array-share-prefix-text-2 c = let w : length (c .before .before .before .before .before .before .before .before .text-into .last .1 .0) ≡ textCapacity = search needs in omega (arith, text-short _ _ (omega arith) (c .before .before .before .before .before .before .before .before .text-into .ensures .0))
@@ -62,12 +91,16 @@ same-length c = search needs
 
 returns-2 : tie.Need-returns-2
 unfolding compared
-returns-2 c = let q : take (c .before .before .before .before .before .before .before .before .before .before .before .before .before .text-into .result) (c .before .before .before .before .before .before .before .before .before .before .before .before .before .text-into .last .1 .0) ≡ textOf (c .before .before .before .before .before .before .before .before .before .before .before .before .before .before .before .before .before .args .value) = text-taken _ _ (omega arith) (c .before .before .before .before .before .before .before .before .before .before .before .before .before .text-into .ensures .0) (c .before .before .before .before .before .before .before .before .before .before .before .before .before .text-into .ensures .1) ∙ printed-text (c .before .before .before .before .before .before .before .before .before .before .before .before .before .before .before .before .before .args .value) (c .before .before .before .before .before .before .before .before .before .before .before .before .before .before .before .before .before .pre) in let e = own-element (c .before .before .before .before .before .before .before .before .before .before .before .before .before .before .before .before .before .args .t .name) (c .before .before .before .before .before .before .before .before .before .before .before .before .before .before .before .before .before .args .value) _ _ _ _ (c .before .before .before .before .before .before .before .before .before .before .before .before .before .before .before .before .before .pre) q (omega arith) (c .before .before .before .before .before .before .before .before .before .write-element .ensures .0) (c .before .before .before .before .before .before .before .before .before .write-element .ensures .1) in rw (← e .1, sym (c .before .before .before .before .before .before .same .ensures) ∙ not-false _ (c .before .before .before .before .before .if1 .left), ← q) (c .before .before .deliver .ensures)
+returns-2 c =
+    let test = c .before .before .before .before .before in
+    rw (← written (c .before .before .before .before .before .before .before .before .before) .1, sym (test .before .same .ensures) ∙ not-false _ (test .if1 .left), ← printed (c .before .before .before .before .before .before .before .before .before .before .before .before .before))
+    (c .before .before .deliver .ensures)
 
 pub compare-spec : {M : Type 1} → statement M
 compare-spec =
     tie.close
     (tie.spec
+    name-requires
     slice-aggregate-text-into
     text-into-requires
     array-share-prefix-text

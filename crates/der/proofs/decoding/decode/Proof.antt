@@ -21,6 +21,9 @@ returns : tie.Need-returns
 unfolding decoded outcomeOf roomOf
 returns c = rw (sym (c .before .before .well-formed .ensures) ∙ not-true _ (c .before .if1 .taken)) (c .refused .ensures, refl)
 
+name-requires : tie.Need-name-requires
+name-requires c κs = search needs
+
 form-requires : tie.Need-form-requires
 form-requires c κs = search needs
 
@@ -38,7 +41,16 @@ refused-requires-2 c κs = search needs
 
 returns-2 : tie.Need-returns-2
 unfolding decoded judgedOctets outcomeOf roomOf
-returns-2 c = rw (sym (c .before .before .before .before .before .before .well-formed .ensures) ∙ not-false _ (c .before .before .before .before .before .if1 .left), ← c .before .before .before .before .form .ensures, sym (c .before .before .before .read-element .ensures) ∙ ap ofText (c .before .enum-told .given .1)) (c .refused2 .ensures, refl)
+returns-2 c =
+    let read = c .before .before .before in
+    let test = read .before .before .before in
+    rw (
+      sym (test .before .well-formed .ensures) ∙ not-false _ (test .if1 .left),
+      ← read .before .before .name .ensures,
+      ← read .before .form .ensures,
+      sym (read .read-element .ensures) ∙ ap ofText (c .before .enum-told .given .1),
+    )
+    (c .refused2 .ensures, refl)
 
 judge-requires : tie.Need-judge-requires
 judge-requires c κs = search needs
@@ -60,11 +72,33 @@ same-length c = search needs
 
 returns-3 : tie.Need-returns-3
 unfolding decoded judgedOctets
-returns-3 c = rw (sym (c .before .before .before .before .before .before .before .before .before .before .before .before .before .well-formed .ensures) ∙ not-false _ (c .before .before .before .before .before .before .before .before .before .before .before .before .if1 .left), ← c .before .before .before .before .before .before .before .before .before .before .before .form .ensures, sym (c .before .before .before .before .before .before .before .before .before .before .read-element .ensures) ∙ ap ofText (c .before .before .before .before .before .before .before .before .value .given .1), der-judged-as _ _ _, sym (c .before .before .before .before .before .before .judge .ensures) ∙ c .before .before .before .before .enum-told2 .given .1) (c .before .before .compare .ensures)
+returns-3 c =
+    let read = c .before .before .before .before .before .before .before .before .before .before in
+    let test = read .before .before .before in
+    rw (
+      sym (test .before .well-formed .ensures) ∙ not-false _ (test .if1 .left),
+      ← read .before .before .name .ensures,
+      ← read .before .form .ensures,
+      sym (read .read-element .ensures) ∙ ap ofText (c .before .before .before .before .before .before .before .before .value .given .1),
+      der-judged-as _ _ _,
+      sym (c .before .before .before .before .before .before .judge .ensures) ∙ c .before .before .before .before .enum-told2 .given .1,
+    )
+    (c .before .before .compare .ensures)
 
 returns-4 : tie.Need-returns-4
 unfolding decoded judgedOctets outcomeOf roomOf
-returns-4 c = rw (sym (c .before .before .before .before .before .before .before .before .before .before .before .well-formed .ensures) ∙ not-false _ (c .before .before .before .before .before .before .before .before .before .before .if1 .left), ← c .before .before .before .before .before .before .before .before .before .form .ensures, sym (c .before .before .before .before .before .before .before .before .read-element .ensures) ∙ ap ofText (c .before .before .before .before .before .before .value .given .1), der-judged-as _ _ _, sym (c .before .before .before .before .judge .ensures) ∙ c .before .before .judgement .given .1) (c .refused3 .ensures, refl)
+returns-4 c =
+    let read = c .before .before .before .before .before .before .before .before in
+    let test = read .before .before .before in
+    rw (
+      sym (test .before .well-formed .ensures) ∙ not-false _ (test .if1 .left),
+      ← read .before .before .name .ensures,
+      ← read .before .form .ensures,
+      sym (read .read-element .ensures) ∙ ap ofText (c .before .before .before .before .before .before .value .given .1),
+      der-judged-as _ _ _,
+      sym (c .before .before .before .before .judge .ensures) ∙ c .before .before .judgement .given .1,
+    )
+    (c .refused3 .ensures, refl)
 
 pub decode-spec : {M : Type 1} → statement M
 decode-spec =
@@ -73,6 +107,7 @@ decode-spec =
     well-formed-requires
     refused-requires
     returns
+    name-requires
     form-requires
     read-element-requires
     enum-known-value

@@ -9,6 +9,9 @@ use borrow.Author.Needs.{needs}
 use Rattle.der.proofs.elements.encode.Statement.{statement}
 use Rattle.der.proofs.elements.encode.Tie as tie
 
+name-requires : tie.Need-name-requires
+name-requires c κs = tt
+
 admit-requires : tie.Need-admit-requires
 admit-requires c κs = tt
 
@@ -28,16 +31,29 @@ same-length : tie.Need-same-length
 same-length c = search needs
 
 returns : tie.Need-returns
-returns c = rw (der-admitted (c .before .before .before .before .before .before .before .before .before .before .args .t) (now (c .before .before .before .before .before .before .before .before .before .before .args .text)), sym (c .before .before .before .before .before .before .before .admit .ensures) ∙ c .before .before .before .before .before .admission .given .1) (c .before .before .write-value .ensures)
+returns c =
+    let admission = c .before .before .before .before .before .before .before in
+    let start = admission .before .before .before .before in
+    rw (
+      der-admitted (start .args .t) (now (start .args .text)),
+      sym (admission .admit .ensures) ∙ c .before .before .before .before .before .admission .given .1,
+      ← admission .before .name .ensures,
+    )
+    (c .before .before .write-value .ensures)
 
 returns-2 : tie.Need-returns-2
 unfolding outcomeOf roomOf
-returns-2 c = rw (der-admitted (c .before .before .before .before .before .before .before .args .t) (now (c .before .before .before .before .before .before .before .args .text)), sym (c .before .before .before .before .admit .ensures) ∙ c .before .before .admission2 .given .1) (c .refused .ensures, refl)
+returns-2 c =
+    let admission = c .before .before .before .before in
+    let start = admission .before .before .before .before in
+    rw (der-admitted (start .args .t) (now (start .args .text)), sym (admission .admit .ensures) ∙ c .before .before .admission2 .given .1)
+    (c .refused .ensures, refl)
 
 pub encode-spec : {M : Type 1} → statement M
 encode-spec =
     tie.close
     (tie.spec
+    name-requires
     admit-requires
     enum-known-admission
     write-value-requires

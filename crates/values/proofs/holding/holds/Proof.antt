@@ -12,7 +12,7 @@ in-type-requires c κs = search needs
 
 returns : tie.Need-returns
 unfolding holdsOf
-returns c = simp (← c .before .before .value-exists .ensures, c .if1 .taken, c .before .in-type .ensures)
+returns c = rw (← c .before .before .value-exists .ensures, c .if1 .taken) (c .before .in-type .ensures)
 
 returns-2 : tie.Need-returns-2
 unfolding holdsOf

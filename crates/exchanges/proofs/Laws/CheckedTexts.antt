@@ -19,7 +19,7 @@ use Rattle.lists.specs.Words.{fractionNumber, pairOf, placeFrom}
 use Rattle.types.specs.Numbers.{clockAt, dateAt, zoneAt}
 use Rattle.settings.proofs.Laws.CheckedTypes.{bothLimits, from2000, noHour24, noYears}
 use Rattle.settings.specs.TypeTexts.{allOf, distinct, equalLists, joined, listType, listsOf, member, oneRow, sameButYear, timeAt, typeOf, usable, yearFamily, yearsOf}
-use Rattle.types.specs.Types.{limitedTo, noLimits, placed, typeNumber, wellFormed}
+use Rattle.types.specs.Types.{limitedTo, noLimits, placed, typeNumber}
 use Rattle.types.specs.declared.types.Limits.{Limits}
 use Rattle.types.specs.declared.types.TypeRead.{TypeRead}
 use Rattle.types.specs.declared.types.Window.{Window}
@@ -202,9 +202,9 @@ allRight (row s text number canonical ∷ l) = isRight (typeOf noLimits (bytes s
 allRight (under s limits text number canonical ∷ l) = isRight (typeOf limits (bytes s)) (bytes text) number canonical && allRight l
 
 texts-checked : allRight rows ≡ true
-unfolding rows numberIn textAfter textIn isRight allRight upTo quotient remainder divisible monthLengthOf daysOfYears newYear weekOf weekOneOf weeksOf astronomicalOf yearAt leapOf yearLengthOf putAfter putDate getWeek getAfter getDate putDigits getDigits getField leading render getValue readUpTo putClock getAfterHours getClock putFraction getFraction putZone getMinutes getDifference getZone putTime getTime sizeIn yearDigits yearText signedFits getSigned getYear splitOn addPair addPairs datedList timedList complete completed listOf eqList placeFrom fractionNumber pairOf dateAt clockAt zoneAt listsOf sameButYear yearFamily oneRow equalLists allOf distinct usable member yearsOf timeAt listType joined typeOf placed limitedTo wellFormed judged admitted existsClock existsFraction existsDifference existsTime sameDateForm sameTimeForm between admitsDate admitsTime inType holdsOf
+unfolding rows numberIn textAfter textIn isRight allRight upTo quotient remainder divisible monthLengthOf daysOfYears newYear weekOf weekOneOf weeksOf astronomicalOf yearAt leapOf yearLengthOf putAfter putDate getWeek getAfter getDate putDigits getDigits getField leading render getValue readUpTo putClock getAfterHours getClock putFraction getFraction putZone getMinutes getDifference getZone putTime getTime sizeIn yearDigits yearText signedFits getSigned getYear splitOn addPair addPairs datedList timedList complete completed listOf eqList placeFrom fractionNumber pairOf dateAt clockAt zoneAt listsOf sameButYear yearFamily oneRow equalLists allOf distinct usable member yearsOf timeAt listType joined typeOf placed limitedTo judged admitted existsClock existsFraction existsDifference existsTime sameDateForm sameTimeForm between admitsDate admitsTime inType holdsOf
 texts-checked = refl
 
 limits-checked : allRight limited ≡ true
-unfolding limited early from1500 numberIn textAfter textIn isRight allRight upTo quotient remainder divisible monthLengthOf daysOfYears newYear weekOf weekOneOf weeksOf astronomicalOf yearAt leapOf yearLengthOf putAfter putDate getWeek getAfter getDate putDigits getDigits getField leading render getValue readUpTo putClock getAfterHours getClock putFraction getFraction putZone getMinutes getDifference getZone putTime getTime sizeIn yearDigits yearText signedFits getSigned getYear splitOn addPair addPairs datedList timedList complete completed listOf eqList placeFrom fractionNumber pairOf dateAt clockAt zoneAt listsOf sameButYear yearFamily oneRow equalLists allOf distinct usable member yearsOf timeAt listType joined typeOf placed limitedTo wellFormed judged admitted existsClock existsFraction existsDifference existsTime sameDateForm sameTimeForm between admitsDate admitsTime inType holdsOf
+unfolding limited early from1500 numberIn textAfter textIn isRight allRight upTo quotient remainder divisible monthLengthOf daysOfYears newYear weekOf weekOneOf weeksOf astronomicalOf yearAt leapOf yearLengthOf putAfter putDate getWeek getAfter getDate putDigits getDigits getField leading render getValue readUpTo putClock getAfterHours getClock putFraction getFraction putZone getMinutes getDifference getZone putTime getTime sizeIn yearDigits yearText signedFits getSigned getYear splitOn addPair addPairs datedList timedList complete completed listOf eqList placeFrom fractionNumber pairOf dateAt clockAt zoneAt listsOf sameButYear yearFamily oneRow equalLists allOf distinct usable member yearsOf timeAt listType joined typeOf placed limitedTo judged admitted existsClock existsFraction existsDifference existsTime sameDateForm sameTimeForm between admitsDate admitsTime inType holdsOf
 limits-checked = refl

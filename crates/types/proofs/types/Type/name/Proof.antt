@@ -1,7 +1,7 @@
--- `Type::ready` meets its contract, name by name.
+-- `Type::name` meets its contract, case by case.
 use borrow.Author.Needs.{needs}
-use Rattle.types.proofs.types.Type.ready.Statement.{statement}
-use Rattle.types.proofs.types.Type.ready.Tie as tie
+use Rattle.types.proofs.types.Type.name.Statement.{statement}
+use Rattle.types.proofs.types.Type.name.Tie as tie
 
 enum-told : tie.Need-enum-told
 enum-told c = search needs
@@ -19,15 +19,15 @@ returns : tie.Need-returns
 returns c = search needs
 
 returns-2 : tie.Need-returns-2
-returns-2 c = rw (c .enum-told2 .given .1)
+returns-2 c = search needs
 
 returns-3 : tie.Need-returns-3
-returns-3 c = rw (c .enum-told3 .given .1)
+returns-3 c = search needs
 
 returns-4 : tie.Need-returns-4
-returns-4 c = rw (c .enum-told4 .given .1)
+returns-4 c = search needs
 
-pub ready-spec : {M : Type 1} → statement M
-ready-spec =
+pub name-spec : {M : Type 1} → statement M
+name-spec =
     tie.close
     (tie.spec enum-told enum-told-2 enum-told-3 enum-told-4 returns returns-2 returns-3 returns-4)
