@@ -1,5 +1,6 @@
 -- `replies::put_result` meets its contract: one of two ways to show octets.
 use native.Mathlib.Omega.{arith}
+use Rattle.octets.proofs.Laws.Stores.{put-there}
 use borrow.Author.Needs.{needs}
 use Rattle.lines.proofs.replies.put_result.Statement.{statement}
 use Rattle.lines.proofs.replies.put_result.Tie as tie
@@ -20,7 +21,9 @@ same-length-2 : tie.Need-same-length-2
 same-length-2 c = search needs
 
 returns-2 : tie.Need-returns-2
-returns-2 c = rw (c .before .before .before .before .if1 .left) (c .before .before .put-octets .ensures .0, omega arith)
+returns-2 c =
+    let f = put-there (c .before .before .put-octets .ensures) (omega arith) in
+    rw (c .before .before .before .before .if1 .left) (f, omega (arith, f .end))
 
 pub put-result-spec : {M : Type 1} → statement M
 put-result-spec =
