@@ -3,7 +3,7 @@ use mathlib.Core.Path.{_≡_, refl, sym, ap, ap₂, _∙_, subst}
 use mathlib.Core.Logic.{_≢_}
 use mathlib.Core.List.{List, [], _∷_, _++_, append-nil}
 use Prim.Native.Nat.{ℕ, zero, suc, _+_, _-_, _*_, _/_, _^_, _≤_, _<_}
-use native.Mathlib.Nat.{lt-of-lt-of-le}
+use native.Mathlib.Nat.{lt-of-lt-of-le, lt-of-le-of-lt, le-add-right}
 use native.Mathlib.Omega.{arith}
 use borrow.Author.Tests.{lt-ltb, le-ltb}
 use lib.Arith.{digits-lt}
@@ -28,6 +28,9 @@ module _ (a b x y p : ℕ) (e : p ≡ 2 ^ b) (high : x < 2 ^ a) (low : y < 2 ^ b
 
   pub joined-fits : a + b ≤ 64 → x * p + y < 2 ^ 64
   joined-fits h = lt-of-lt-of-le joined-lt (pow-mono {i = a + b} {j = 64} h)
+
+  pub shifted-fits : a + b ≤ 64 → x * p < 2 ^ 64
+  shifted-fits h = lt-of-le-of-lt (le-add-right (x * p) y) (joined-fits h)
 
   pub joined-bits : bitsOf (a + b) (x * p + y) ≡ bitsOf a x ++ bitsOf b y
   joined-bits = ap (λ (n : ℕ). bitsOf (a + b) (x * n + y)) e ∙ bits-join a b x y low
