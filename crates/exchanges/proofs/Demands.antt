@@ -18,11 +18,11 @@ use Rattle.types.specs.Types.{formOf, typeNumber, wellFormed, nameOf}
 use Rattle.types.specs.declared.types.Limits.{Limits}
 use Rattle.types.specs.declared.types.TypeRead.{TypeRead}
 use Rattle.types.specs.declared.types.«Type».{«Type» as Ty}
-use Rattle.settings.specs.TypeTexts.{typeOf}
-use Rattle.settings.proofs.Laws.WellFormed.{read-well-formed}
-use Rattle.values.specs.Admission.{admissionNumber, admitted, judged, judgementNumber}
-use Rattle.values.specs.declared.admission.Admission.{Admission}
-use Rattle.values.specs.declared.admission.Judgement.{Judgement}
+use Rattle.type_texts.specs.TypeTexts.{typeOf}
+use Rattle.type_texts.proofs.Laws.WellFormed.{read-well-formed}
+use Rattle.held_values.specs.Admission.{admissionNumber, admitted, judged, judgementNumber}
+use Rattle.held_values.specs.declared.admission.Admission.{Admission}
+use Rattle.held_values.specs.declared.admission.Judgement.{Judgement}
 use Rattle.rows.specs.Fields.{yearRowOf}
 use Rattle.rows.specs.Readings.{readOctets}
 use Rattle.rows.proofs.Laws.SameRows.{same-form, same-rows}
@@ -34,9 +34,9 @@ use Rattle.encodings.specs.Encodings.{Encoding, encodedBy, ofText}
 use Rattle.encodings.proofs.Laws.Encodings.{admissionAnswer, answerWith, encoded-admitted, judged-as, noted}
 use Rattle.per.specs.Per.{countOf, encodingOf, inPer, per, perDecoded, perEncoded}
 use Rattle.per.proofs.Laws.Per.{per-lawful}
-use Rattle.der.specs.Der.{der, derDecoded, derEncoded, inDer}
-use Rattle.der.specs.Elements.{element, elementOf}
-use Rattle.der.proofs.Laws.Der.{der-lawful, element-gives, one-tag}
+use Rattle.der_elements.specs.Der.{der, derDecoded, derEncoded, inDer}
+use Rattle.der_elements.specs.Elements.{element, elementOf}
+use Rattle.der_elements.proofs.Laws.Der.{der-lawful, element-gives, one-tag}
 use Rattle.exchanges.specs.Coding.{answerOf, answerUnder, derDecode, derEncode, perDecode, perEncode, underType}
 use Rattle.exchanges.specs.Limits.{limitsGiven, limitsNumber, underLimits, windowGiven}
 use Rattle.exchanges.specs.Demands.{answerInC, encodes, decodes, BitsTold, Demand1, Demand1InC, Demand2InDer, Demand2InPer, Demand3InDer, Demand3InPer, LimitsFromC, LimitsTold, SevenNumbers, TextsTold, TypesTold, ValuesTold}

@@ -18,8 +18,8 @@ use Rattle.types.specs.declared.types.Limits.{Limits}
 use Rattle.types.specs.declared.types.TypeRead.{TypeRead}
 use Rattle.types.specs.declared.types.Window.{Window}
 use Rattle.types.specs.declared.types.«Type».{«Type» as Ty}
-use Rattle.settings.specs.TypeTexts.{typeOf}
-use Rattle.values.specs.Admission.{admissionNumber, admitted, judged, judgementNumber}
+use Rattle.type_texts.specs.TypeTexts.{typeOf}
+use Rattle.held_values.specs.Admission.{admissionNumber, admitted, judged, judgementNumber}
 use Rattle.fields.specs.Bits.{octetsOf}
 use Rattle.fields.specs.Fields.{bitCount, layout}
 use Rattle.rows.specs.Fields.{fieldsOf, yearRowOf}
@@ -27,8 +27,8 @@ use Rattle.rows.specs.Readings.{readOctets}
 use Rattle.unpacking.specs.Unpacked.{valueIn, valueNumber}
 use Rattle.kinds.specs.Kinds.{Kind, holds}
 use Rattle.per.specs.Per.{per}
-use Rattle.der.specs.Der.{der}
-use Rattle.der.specs.Elements.{contentsOf, tagOf}
+use Rattle.der_elements.specs.Der.{der}
+use Rattle.der_elements.specs.Elements.{contentsOf, tagOf}
 use Rattle.exchanges.specs.Coding.{answerOf, derDecode, derEncode, perDecode, perEncode}
 use Rattle.exchanges.specs.Limits.{limitsGiven, limitsNumber, underLimits}
 use Rattle.exchanges.specs.declared.entries.Entry.{Entry}

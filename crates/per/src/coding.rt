@@ -2,7 +2,7 @@ ghost use mathlib.Core.Path.{_≡_};
 ghost use Rattle.answers.specs.Outcomes.{done, outcomeOf, roomOf};
 ghost use Rattle.kinds.specs.Coding.{compared};
 ghost use Rattle.rows.specs.Fields.{yearRowOf, yearRowOfParts, yearsRow};
-ghost use Rattle.values.specs.Existence.{existsValue};
+ghost use Rattle.held_values.specs.Existence.{existsValue};
 ghost use mathlib.Core.Bool.{true};
 ghost use Rattle.per.specs.Per.{per as perKind, encodingOf, countOf, perEncoded, perDecoded};
 use answers::Outcome;

@@ -2,7 +2,7 @@ ghost use mathlib.Core.Path.{_≡_};
 ghost use mathlib.Core.List.{[], _∷_};
 ghost use Rattle.types.specs.Types.{limitedTo};
 ghost use Rattle.lists.specs.Lists.{yearIn};
-ghost use Rattle.settings.specs.TypeTexts.{joined, listsOf, listType, member, sameButYear, timeAt, typeOf, usable, yearFamily, yearsOf};
+ghost use Rattle.type_texts.specs.TypeTexts.{joined, listsOf, listType, member, sameButYear, timeAt, typeOf, usable, yearFamily, yearsOf};
 use lists::lists::Settings;
 use lists::lists::list_has_date;
 use lists::lists::list_has_time;

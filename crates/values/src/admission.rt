@@ -1,25 +1,15 @@
 // Which value a text gives under a type, or why it gives none.
 ghost use mathlib.Core.Path.{_≡_};
-ghost use Rattle.values.specs.Admission.{judged, admitted};
+ghost use Rattle.held_values.specs.Admission.{judged, admitted};
 use crate::existence::value_exists;
 use crate::holding::in_type;
 use answers::Refusal;
+use held_values::Admission;
+use held_values::Judgement;
 use reading::read_text;
 use texts::TextRead;
 use texts::Value;
 use types::Type;
-
-// What is judged of a value of a type's form: the type holds it, or the refusal.
-pub enum Judgement {
-    Held,
-    Refused(Refusal),
-}
-
-// The value that a text gives under a type, or the refusal.
-pub enum Admission {
-    Value(Value),
-    Refused(Refusal),
-}
 
 // A value of the type's form: whether it exists, and whether it is in the type.
 pub fn judge(t: Type, value: Value) -> Judgement

@@ -6,8 +6,6 @@ pub mod existence;
 pub mod holding;
 pub mod written;
 
-pub use admission::Admission;
-pub use admission::Judgement;
 pub use admission::admit;
 pub use admission::judge;
 pub use answers::Bits;
@@ -17,6 +15,8 @@ pub use answers::Refusal;
 pub use answers::deliver;
 pub use existence::time_exists;
 pub use existence::value_exists;
+pub use held_values::Admission;
+pub use held_values::Judgement;
 pub use holding::holds;
 pub use holding::in_type;
 pub use printing::TEXT_CAPACITY;

@@ -1,7 +1,7 @@
 // The canonical text of a value in lent room.
 ghost use mathlib.Core.Path.{_≡_};
 ghost use Rattle.answers.specs.Outcomes.{done, outcomeOf, roomOf};
-ghost use Rattle.values.specs.Written.{printed, written};
+ghost use Rattle.held_values.specs.Written.{printed, written};
 use crate::existence::value_exists;
 use answers::Bits;
 use answers::Outcome;

@@ -21,14 +21,14 @@ use Rattle.texts.specs.declared.values.Value.{Value}
 use Rattle.types.specs.Types.{formOf, wellFormed}
 use Rattle.types.specs.declared.types.«Type».{«Type» as Ty}
 use Rattle.printing.proofs.Laws.Canonical.{text-length}
-use Rattle.values.specs.Admission.{admitted, givenAs, judged, judgedRead, textNumber}
-use Rattle.values.specs.Existence.{existsValue}
-use Rattle.values.specs.Forms.{sameForm}
-use Rattle.values.specs.Holding.{holdsOf, inType}
-use Rattle.values.specs.declared.admission.Admission.{Admission}
-use Rattle.values.specs.declared.admission.Judgement.{Judgement}
-use Rattle.values.proofs.Laws.Existing.{exists-digits, held-fits, held-read}
-use Rattle.values.proofs.Laws.Holding.{form-same, held, holds-both, in-type, same-form}
+use Rattle.held_values.specs.Admission.{admitted, givenAs, judged, judgedRead, textNumber}
+use Rattle.held_values.specs.Existence.{existsValue}
+use Rattle.held_values.specs.Forms.{sameForm}
+use Rattle.held_values.specs.Holding.{holdsOf, inType}
+use Rattle.held_values.specs.declared.admission.Admission.{Admission}
+use Rattle.held_values.specs.declared.admission.Judgement.{Judgement}
+use Rattle.held_values.proofs.Laws.Existing.{exists-digits, held-fits, held-read}
+use Rattle.held_values.proofs.Laws.Holding.{form-same, held, holds-both, in-type, same-form}
 use mathlib.Core.Option.{none, some}
 use Rattle.kinds.specs.Coding.{encoded, decoded, judgedText, judgedAs}
 use Rattle.kinds.specs.Kinds.{holds}

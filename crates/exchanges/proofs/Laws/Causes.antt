@@ -18,7 +18,7 @@ use Rattle.answers.specs.declared.refusals.Refusal.{Refusal}
 use Rattle.types.specs.declared.types.Limits.{Limits}
 use Rattle.types.specs.declared.types.TypeRead.{TypeRead}
 use Rattle.types.specs.declared.types.«Type».{«Type» as Ty}
-use Rattle.settings.specs.TypeTexts.{typeOf}
+use Rattle.type_texts.specs.TypeTexts.{typeOf}
 use Rattle.kinds.specs.Coding.{encoded, decoded}
 use Rattle.kinds.specs.Kinds.{Kind, holds}
 use Rattle.kinds.proofs.Laws.Coding as Coding

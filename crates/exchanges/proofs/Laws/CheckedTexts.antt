@@ -17,8 +17,8 @@ use Rattle.calendar.specs.Years.{astronomicalOf, leapOf, yearAt, yearLengthOf}
 use Rattle.lists.specs.Lists.{addPair, addPairs, complete, completed, datedList, listOf, timedList}
 use Rattle.lists.specs.Words.{fractionNumber, pairOf, placeFrom}
 use Rattle.types.specs.Numbers.{clockAt, dateAt, zoneAt}
-use Rattle.settings.proofs.Laws.CheckedTypes.{bothLimits, from2000, noHour24, noYears}
-use Rattle.settings.specs.TypeTexts.{allOf, distinct, equalLists, joined, listType, listsOf, member, oneRow, sameButYear, timeAt, typeOf, usable, yearFamily, yearsOf}
+use Rattle.type_texts.proofs.Laws.CheckedTypes.{bothLimits, from2000, noHour24, noYears}
+use Rattle.type_texts.specs.TypeTexts.{allOf, distinct, equalLists, joined, listType, listsOf, member, oneRow, sameButYear, timeAt, typeOf, usable, yearFamily, yearsOf}
 use Rattle.types.specs.Types.{limitedTo, noLimits, placed, typeNumber}
 use Rattle.types.specs.declared.types.Limits.{Limits}
 use Rattle.types.specs.declared.types.TypeRead.{TypeRead}
@@ -28,11 +28,11 @@ use Rattle.texts.specs.Digits.{getDigits, getField, leading, putDigits}
 use Rattle.texts.specs.Texts.{getValue, readUpTo, render, textOf}
 use Rattle.texts.specs.Times.{getAfterHours, getClock, getDifference, getFraction, getMinutes, getTime, getZone, putClock, putFraction, putTime, putZone}
 use Rattle.texts.specs.Years.{getSigned, getYear, signedFits, sizeIn, yearDigits, yearText}
-use Rattle.values.specs.Admission.{admissionNumber, admitted, judged}
-use Rattle.values.specs.Existence.{existsClock, existsDifference, existsFraction, existsTime}
-use Rattle.values.specs.Forms.{sameDateForm, sameTimeForm}
-use Rattle.values.specs.Holding.{admitsDate, admitsTime, between, holdsOf, inType}
-use Rattle.values.specs.declared.admission.Admission.{Admission}
+use Rattle.held_values.specs.Admission.{admissionNumber, admitted, judged}
+use Rattle.held_values.specs.Existence.{existsClock, existsDifference, existsFraction, existsTime}
+use Rattle.held_values.specs.Forms.{sameDateForm, sameTimeForm}
+use Rattle.held_values.specs.Holding.{admitsDate, admitsTime, between, holdsOf, inType}
+use Rattle.held_values.specs.declared.admission.Admission.{Admission}
 
 data Row : Type 0 where
   row : String → String → ℕ → String → Row

@@ -20,11 +20,11 @@ use Rattle.texts.specs.Years.{getSigned, getYear, signedFits, sizeIn, yearDigit
 use Rattle.lists.specs.Lists.{addPair, addPairs, complete, completed, datedList, listOf, timedList}
 use Rattle.lists.specs.Words.{fractionNumber, pairOf, placeFrom}
 use Rattle.types.specs.Numbers.{clockAt, dateAt, zoneAt}
-use Rattle.settings.specs.TypeTexts.{allOf, distinct, equalLists, joined, listType, listsOf, member, oneRow, sameButYear, timeAt, typeOf, usable, yearFamily, yearsOf}
+use Rattle.type_texts.specs.TypeTexts.{allOf, distinct, equalLists, joined, listType, listsOf, member, oneRow, sameButYear, timeAt, typeOf, usable, yearFamily, yearsOf}
 use Rattle.types.specs.Types.{limitedTo, placed}
-use Rattle.values.specs.Existence.{existsClock, existsDifference, existsFraction, existsTime}
-use Rattle.values.specs.Forms.{sameDateForm, sameTimeForm}
-use Rattle.values.specs.Holding.{admitsDate, admitsTime, between, inType}
+use Rattle.held_values.specs.Existence.{existsClock, existsDifference, existsFraction, existsTime}
+use Rattle.held_values.specs.Forms.{sameDateForm, sameTimeForm}
+use Rattle.held_values.specs.Holding.{admitsDate, admitsTime, between, inType}
 use Rattle.fields.specs.Bits.{bitsOf, numberIn, octetsOf, packed, unpacked}
 use Rattle.fields.specs.Integers.{fewest, fromTwos, half, twos, within}
 use Rattle.fields.specs.Fields.{binaryDigits, bitCount, fieldBits, fieldWidth, layout, width}
@@ -35,8 +35,8 @@ use Rattle.kinds.specs.Coding.{compared, decoded, encoded, judgedAs, judgedOcte
 use Rattle.per.specs.Per.{countOf, encodingOf}
 use Rattle.answers.specs.Counts.{octetsFor}
 use Rattle.exchanges.specs.Coding.{answerOf}
-use Rattle.der.specs.Elements.{contentsOf, element, elementOf, without}
-use Rattle.der.specs.Readings.{allDigits, digitsOnly, readElement, separated}
+use Rattle.der_elements.specs.Elements.{contentsOf, element, elementOf, without}
+use Rattle.der_elements.specs.Readings.{allDigits, digitsOnly, readElement, separated}
 use Rattle.line_replies.specs.Lines.{cutAgain, entryNamed, fromHex, hexDigit, hexNumber, replyOf, toHex, worked}
 
 -- a line with so many zeros behind it, and its reply

@@ -1,14 +1,12 @@
 -- Numbers joined, free integers, and the layouts of few fields.
 use mathlib.Core.Path.{_≡_, refl, sym, ap, ap₂, _∙_, subst}
-use mathlib.Core.Bool.{cond}
 use mathlib.Core.Logic.{_≢_}
-use mathlib.Core.List.{[], _∷_, _++_, append-nil}
+use mathlib.Core.List.{List, [], _∷_, _++_, append-nil}
 use Prim.Native.Nat.{ℕ, zero, suc, _+_, _-_, _*_, _/_, _^_, _≤_, _<_}
-use native.Mathlib.Nat.{lt-of-lt-of-le}
+use native.Mathlib.Nat.{lt-of-lt-of-le, lt-of-le-of-lt, le-add-right}
 use native.Mathlib.Omega.{arith}
 use borrow.Author.Tests.{lt-ltb, le-ltb}
 use lib.Arith.{digits-lt}
-use lib.Dec.{ltb}
 use lib.IntN.{ℤ, pos, negsuc}
 use lib.Pow.{pow-add, pow-mono}
 use Rattle.answers.specs.Counts.{octetsFor}
@@ -30,6 +28,9 @@ module _ (a b x y p : ℕ) (e : p ≡ 2 ^ b) (high : x < 2 ^ a) (low : y < 2 ^ b
 
   pub joined-fits : a + b ≤ 64 → x * p + y < 2 ^ 64
   joined-fits h = lt-of-lt-of-le joined-lt (pow-mono {i = a + b} {j = 64} h)
+
+  pub shifted-fits : a + b ≤ 64 → x * p < 2 ^ 64
+  shifted-fits h = lt-of-le-of-lt (le-add-right (x * p) y) (joined-fits h)
 
   pub joined-bits : bitsOf (a + b) (x * p + y) ≡ bitsOf a x ++ bitsOf b y
   joined-bits = ap (λ (n : ℕ). bitsOf (a + b) (x * n + y)) e ∙ bits-join a b x y low
@@ -78,20 +79,22 @@ negative-bits n w p v e f g =
     let k : v ≡ 2 ^ w .count - suc n = omega arith in
     free-bits (negsuc n) w v e (k ∙ ap (λ (m : ℕ). 2 ^ m - suc n) e)
 
--- ---- the layouts of one field, two and three
+-- ---- bits that are the layout of one field, two and three, by the groups that they were joined from
 
-module _ (f : Field) where
-  pub layout-one : layout (f ∷ []) ≡ fieldBits f
+module _ {l : List Field} {f : Field} {bs : BitString} where
+  pub one-field : l ≡ f ∷ [] → bs ≡ fieldBits f → bs ≡ layout l
   unfolding layout
-  layout-one = append-nil (fieldBits f)
+  one-field e a = a ∙ sym (ap layout e ∙ append-nil (fieldBits f))
 
-  pub layout-two : (g : Field) → layout (f ∷ g ∷ []) ≡ fieldBits f ++ fieldBits g
-  unfolding layout
-  layout-two g = ap (λ (l : BitString). fieldBits f ++ l) (append-nil (fieldBits g))
+  module _ {g : Field} {xs ys : BitString} where
+    pub two-fields : l ≡ f ∷ g ∷ [] → bs ≡ xs ++ ys → xs ≡ fieldBits f → ys ≡ fieldBits g → bs ≡ layout l
+    unfolding layout
+    two-fields e j a b = j ∙ ap₂ _++_ a (b ∙ sym (append-nil (fieldBits g))) ∙ sym (ap layout e)
 
-  pub layout-three : (g h : Field) → layout (f ∷ g ∷ h ∷ []) ≡ fieldBits f ++ (fieldBits g ++ fieldBits h)
-  unfolding layout
-  layout-three g h = ap (λ (l : BitString). fieldBits f ++ (fieldBits g ++ l)) (append-nil (fieldBits h))
+    pub three-fields : {h : Field} {zs rest : BitString} → l ≡ f ∷ g ∷ h ∷ [] → bs ≡ xs ++ rest → xs ≡ fieldBits f
+        → rest ≡ ys ++ zs → ys ≡ fieldBits g → zs ≡ fieldBits h → bs ≡ layout l
+    unfolding layout
+    three-fields {h} e j a k b d = j ∙ ap₂ _++_ a (k ∙ ap₂ _++_ b (d ∙ sym (append-nil (fieldBits h)))) ∙ sym (ap layout e)
 
 -- ---- the fraction's and the difference's fields by the code's tests
 
@@ -100,10 +103,15 @@ unfolding fractionFields layout
 no-fraction zero f e = refl
 no-fraction (suc n) f e = absurd (omega arith)
 
-pub some-fraction : (n f : ℕ) → n ≢ 0 → fractionFields n f ≡ cond (ltb f 1000) (Ranged 2 0 ∷ Ranged 1000 f ∷ []) (longFraction f)
+pub short-fraction : (n f : ℕ) → n ≢ 0 → f < 1000 → fractionFields n f ≡ Ranged 2 0 ∷ Ranged 1000 f ∷ []
 unfolding fractionFields
-some-fraction zero f e = absurd (e refl)
-some-fraction (suc n) f e = refl
+short-fraction zero f e h = absurd (e refl)
+short-fraction (suc n) f e h = rw (lt-ltb f 1000 h)
+
+pub long-fraction : (n f : ℕ) → n ≢ 0 → 1000 ≤ f → fractionFields n f ≡ Ranged 2 1 ∷ Free (pos f) ∷ []
+unfolding fractionFields longFraction
+long-fraction zero f e h = absurd (e refl)
+long-fraction (suc n) f e h = rw (le-ltb f 1000 h)
 
 pub no-minutes : (h m : ℕ) → m ≡ 0 → differenceFields h m ≡ Ranged 2 0 ∷ Ranged 32 h ∷ []
 unfolding differenceFields
@@ -153,9 +161,9 @@ pub is-since : {d : Distance} {n : ℕ} (z : ℤ) → d ≡ distanceOf z → d �
 is-since {d} {n} (pos k) e h = let q : k ≡ n = cc in ap pos q
 is-since (negsuc k) e h = absurd (let q : _≡_ {A = ℕ} 0 1 = cc in omega arith)
 
-pub is-before : {d : Distance} {n : ℕ} (z : ℤ) → d ≡ distanceOf z → d ≡ Distance.Before n → z ≡ negsuc (n - 1)
-is-before (pos k) e h = absurd (let q : _≡_ {A = ℕ} 0 1 = cc in omega arith)
-is-before {d} {n} (negsuc k) e h =
+pub is-before : {d : Distance} {n m : ℕ} (z : ℤ) → d ≡ distanceOf z → d ≡ Distance.Before n → m ≡ n - 1 → z ≡ negsuc m
+is-before (pos k) e h l = absurd (let q : _≡_ {A = ℕ} 0 1 = cc in omega arith)
+is-before {d} {n} {m} (negsuc k) e h l =
     let q : suc k ≡ n = cc in
-    let r : k ≡ n - 1 = omega arith in
+    let r : k ≡ m = omega arith in
     ap negsuc r

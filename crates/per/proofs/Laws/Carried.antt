@@ -19,11 +19,11 @@ use Rattle.texts.specs.declared.values.Value.{Value}
 use Rattle.texts.specs.declared.values.Zone.{Zone}
 use Rattle.texts.proofs.Laws.Fits.{Fits, DateFits, YearFits}
 use Rattle.types.specs.declared.types.«Type».{«Type» as Ty}
-use Rattle.values.specs.Existence.{existsTime, existsValue, hoursOf, minutesOf, secondsOf}
-use Rattle.values.specs.Holding.{holdsOf}
-use Rattle.values.proofs.Laws.Existence.{ZoneInRange, time-range}
-use Rattle.values.proofs.Laws.Existing.{held-fits}
-use Rattle.values.proofs.Laws.Holding.{held}
+use Rattle.held_values.specs.Existence.{existsTime, existsValue, hoursOf, minutesOf, secondsOf}
+use Rattle.held_values.specs.Holding.{holdsOf}
+use Rattle.held_values.proofs.Laws.Existence.{ZoneInRange, time-range}
+use Rattle.held_values.proofs.Laws.Existing.{held-fits}
+use Rattle.held_values.proofs.Laws.Holding.{held}
 use Rattle.fields.specs.Integers.{within, half}
 use Rattle.fields.proofs.Laws.Integers.{within-in}
 use Rattle.rows.specs.Ranges.{carried}

@@ -13,8 +13,8 @@ use Rattle.texts.specs.declared.forms.Form.{Form}
 use Rattle.texts.specs.declared.values.Value.{Value}
 use Rattle.types.specs.Types.{formOf}
 use Rattle.types.specs.declared.types.«Type».{«Type» as Ty}
-use Rattle.values.specs.Admission.{admitted, judged}
-use Rattle.values.proofs.Laws.Holding.{in-type}
+use Rattle.held_values.specs.Admission.{admitted, judged}
+use Rattle.held_values.proofs.Laws.Holding.{in-type}
 use Rattle.fields.specs.Bits.{BitString, unpacked}
 use Rattle.rows.specs.Fields.{yearRowOf}
 use Rattle.rows.specs.Loose.{ReadableBits}

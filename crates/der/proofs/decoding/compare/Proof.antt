@@ -10,9 +10,9 @@ use Rattle.kinds.specs.Coding.{compared}
 use Rattle.printing.specs.Canonical.{textCapacity}
 use Rattle.texts.specs.Texts.{textOf}
 use Rattle.types.specs.Types.{nameOf}
-use Rattle.values.proofs.Laws.Existing.{printed-text, text-short, text-taken}
-use Rattle.der.specs.Elements.{elementOf}
-use Rattle.der.proofs.Laws.Der.{own-element}
+use Rattle.held_values.proofs.Laws.Existing.{printed-text, text-short, text-taken}
+use Rattle.der_elements.specs.Elements.{elementOf}
+use Rattle.der_elements.proofs.Laws.Der.{own-element}
 use borrow.Author.Needs.{needs}
 use Rattle.der.proofs.decoding.compare.Statement.{statement}
 use Rattle.der.proofs.decoding.compare.Tie as tie

@@ -4,9 +4,9 @@ use borrow.Author.Tests.{not-false, not-true}
 use Rattle.answers.specs.Outcomes.{outcomeOf, roomOf}
 use Rattle.kinds.specs.Coding.{decoded, judgedOctets}
 use Rattle.encodings.specs.Encodings.{ofText}
-use Rattle.values.proofs.Laws.Existing.{judged-held}
-use Rattle.values.proofs.Laws.Holding.{held}
-use Rattle.der.proofs.Laws.Der.{der-judged-as}
+use Rattle.held_values.proofs.Laws.Existing.{judged-held}
+use Rattle.held_values.proofs.Laws.Holding.{held}
+use Rattle.der_elements.proofs.Laws.Der.{der-judged-as}
 use borrow.Author.Needs.{needs}
 use Rattle.der.proofs.decoding.decode.Statement.{statement}
 use Rattle.der.proofs.decoding.decode.Tie as tie

@@ -4,8 +4,8 @@ use mathlib.Core.List.{[], _∷_}
 use Prim.Native.Nat.{_+_, _-_, _≤_}
 use native.Mathlib.Omega.{arith}
 use lib.ListN.{drop, getD, length}
-use Rattle.der.specs.Elements.{contentsOf}
-use Rattle.der.proofs.Laws.Contents.{contents-count, contents-end}
+use Rattle.der_elements.specs.Elements.{contentsOf}
+use Rattle.der_elements.proofs.Laws.Contents.{contents-count, contents-end}
 use Rattle.der.proofs.elements.count_contents.Statement.{statement}
 use Rattle.der.proofs.elements.count_contents.Tie as tie
 

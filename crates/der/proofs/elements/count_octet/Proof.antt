@@ -1,6 +1,6 @@
 -- `elements::count_octet` meets its contract.
 use mathlib.Core.Path.{sym, _∙_}
-use Rattle.der.proofs.Laws.Contents.{octet-kept, octet-omitted}
+use Rattle.der_elements.proofs.Laws.Contents.{octet-kept, octet-omitted}
 use borrow.Author.Needs.{needs}
 use Rattle.der.proofs.elements.count_octet.Statement.{statement}
 use Rattle.der.proofs.elements.count_octet.Tie as tie

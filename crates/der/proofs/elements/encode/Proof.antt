@@ -2,9 +2,9 @@
 use mathlib.Core.Path.{_∙_, refl, sym}
 use denote.Ref.{now}
 use Rattle.answers.specs.Outcomes.{outcomeOf, roomOf}
-use Rattle.values.proofs.Laws.Existing.{admitted-held}
-use Rattle.values.proofs.Laws.Holding.{held}
-use Rattle.der.proofs.Laws.Der.{der-admitted}
+use Rattle.held_values.proofs.Laws.Existing.{admitted-held}
+use Rattle.held_values.proofs.Laws.Holding.{held}
+use Rattle.der_elements.proofs.Laws.Der.{der-admitted}
 use borrow.Author.Needs.{needs}
 use Rattle.der.proofs.elements.encode.Statement.{statement}
 use Rattle.der.proofs.elements.encode.Tie as tie

@@ -7,8 +7,8 @@ use lib.ListN.{drop, getD, length}
 use lib.Seq.{sets}
 use Rattle.octets.specs.Stores.{StoredText}
 use Rattle.octets.proofs.Laws.Stores.{put-rest}
-use Rattle.der.specs.Elements.{contentsOf}
-use Rattle.der.proofs.Laws.Contents.{contents-count, contents-end, contents-step}
+use Rattle.der_elements.specs.Elements.{contentsOf}
+use Rattle.der_elements.proofs.Laws.Contents.{contents-count, contents-end, contents-step}
 use Rattle.der.proofs.elements.put_contents.Statement.{statement}
 use Rattle.der.proofs.elements.put_contents.Tie as tie
 

@@ -3,8 +3,8 @@ use mathlib.Core.Path.{_∙_}
 use native.Mathlib.Omega.{arith}
 use lib.ListN.{length-set}
 use Rattle.octets.proofs.Laws.Stores.{put-octet, put-then}
-use Rattle.der.specs.Elements.{contentsOf, element}
-use Rattle.der.proofs.Laws.Contents.{element-size}
+use Rattle.der_elements.specs.Elements.{contentsOf, element}
+use Rattle.der_elements.proofs.Laws.Contents.{element-size}
 use Rattle.der.proofs.elements.put_element.Statement.{statement}
 use Rattle.der.proofs.elements.put_element.Tie as tie
 

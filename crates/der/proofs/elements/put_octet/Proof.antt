@@ -4,8 +4,8 @@ use mathlib.Core.List.{[], _∷_}
 use native.Mathlib.Omega.{arith}
 use lib.ListN.{length}
 use Rattle.octets.proofs.Laws.Stores.{put-none, put-octet}
-use Rattle.der.specs.Elements.{contentsOf}
-use Rattle.der.proofs.Laws.Contents.{octet-kept, octet-omitted}
+use Rattle.der_elements.specs.Elements.{contentsOf}
+use Rattle.der_elements.proofs.Laws.Contents.{octet-kept, octet-omitted}
 use borrow.Author.Needs.{needs}
 use Rattle.der.proofs.elements.put_octet.Statement.{statement}
 use Rattle.der.proofs.elements.put_octet.Tie as tie

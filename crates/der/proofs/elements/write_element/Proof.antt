@@ -5,8 +5,8 @@ use native.Mathlib.Omega.{arith}
 use lib.ListN.{length}
 use Rattle.octets.proofs.Laws.Stores.{sets-front}
 use Rattle.answers.proofs.Laws.Outcomes.{left-out, put-in}
-use Rattle.der.specs.Elements.{contentsOf, element, tagOf}
-use Rattle.der.proofs.Laws.Contents.{element-size}
+use Rattle.der_elements.specs.Elements.{contentsOf, element, tagOf}
+use Rattle.der_elements.proofs.Laws.Contents.{element-size}
 use borrow.Author.Needs.{needs}
 use Rattle.der.proofs.elements.write_element.Statement.{statement}
 use Rattle.der.proofs.elements.write_element.Tie as tie

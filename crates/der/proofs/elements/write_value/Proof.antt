@@ -4,8 +4,8 @@ use native.Mathlib.Omega.{arith}
 use lib.ListN.{length}
 use lib.Seq.{length-take-le}
 use Rattle.printing.specs.Canonical.{textCapacity}
-use Rattle.values.proofs.Laws.Existing.{printed-text, text-short, text-taken}
-use Rattle.der.specs.Elements.{elementOf}
+use Rattle.held_values.proofs.Laws.Existing.{printed-text, text-short, text-taken}
+use Rattle.der_elements.specs.Elements.{elementOf}
 use borrow.Author.Needs.{needs}
 use Rattle.der.proofs.elements.write_value.Statement.{statement}
 use Rattle.der.proofs.elements.write_value.Tie as tie

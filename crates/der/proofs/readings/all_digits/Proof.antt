@@ -4,8 +4,8 @@ use Prim.Native.Nat.{_-_, _≤_}
 use native.Mathlib.Omega.{arith}
 use lib.ListN.{drop, length}
 use borrow.Author.Needs.{needs}
-use Rattle.der.specs.Readings.{allDigits}
-use Rattle.der.proofs.Laws.Readings.{above-digits, below-digits, digit-here, digits-end}
+use Rattle.der_elements.specs.Readings.{allDigits}
+use Rattle.der_elements.proofs.Laws.Readings.{above-digits, below-digits, digit-here, digits-end}
 use Rattle.der.proofs.readings.all_digits.Statement.{statement}
 use Rattle.der.proofs.readings.all_digits.Tie as tie
 

@@ -3,7 +3,7 @@ use mathlib.Core.Path.{sym}
 use native.Mathlib.Omega.{arith}
 use lib.Seq.{length-take-le}
 use borrow.Author.Needs.{needs}
-use Rattle.der.proofs.Laws.Readings.{begins-short}
+use Rattle.der_elements.proofs.Laws.Readings.{begins-short}
 use Rattle.der.proofs.readings.begins.Statement.{statement}
 use Rattle.der.proofs.readings.begins.Tie as tie
 

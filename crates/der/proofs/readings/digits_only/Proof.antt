@@ -1,6 +1,6 @@
 -- `readings::digits_only` meets its contract.
 use borrow.Author.Tests.{eq-eqb, ne-eqb}
-use Rattle.der.specs.Readings.{digitsOnly}
+use Rattle.der_elements.specs.Readings.{digitsOnly}
 use borrow.Author.Needs.{needs}
 use Rattle.der.proofs.readings.digits_only.Statement.{statement}
 use Rattle.der.proofs.readings.digits_only.Tie as tie

@@ -2,7 +2,7 @@
 use mathlib.Core.Path.{sym, _∙_}
 use native.Mathlib.Omega.{arith}
 use lib.ListN.{length-set}
-use Rattle.der.proofs.Laws.Readings.{first-put, first-size, put-separated, second-put, second-size, third-put}
+use Rattle.der_elements.proofs.Laws.Readings.{first-put, first-size, put-separated, second-put, second-size, third-put}
 use borrow.Author.Needs.{needs}
 use Rattle.der.proofs.readings.put_fields.Statement.{statement}
 use Rattle.der.proofs.readings.put_fields.Tie as tie

@@ -4,7 +4,7 @@ use native.Mathlib.Omega.{arith}
 use lib.ListN.{length, length-set}
 use lib.Seq.{length-take-le}
 use borrow.Author.Tests.{not-false, not-true}
-use Rattle.der.proofs.Laws.Readings.{date-size, date-time-stored, digits-count, time-digits}
+use Rattle.der_elements.proofs.Laws.Readings.{date-size, date-time-stored, digits-count, time-digits}
 use Rattle.texts.specs.Texts.{readOf}
 use Rattle.encodings.specs.Encodings.{ofText}
 use borrow.Author.Needs.{needs}

@@ -2,10 +2,10 @@
 use mathlib.Core.Path.{_≡_, sym, _∙_}
 use native.Mathlib.Omega.{arith}
 use borrow.Author.Tests.{not-false, not-true}
-use Rattle.der.specs.Readings.{readElement}
+use Rattle.der_elements.specs.Readings.{readElement}
 use lib.ListN.{length}
-use Rattle.der.specs.Elements.{tagOf}
-use Rattle.der.proofs.Laws.Readings.{begins-short, rest-cut}
+use Rattle.der_elements.specs.Elements.{tagOf}
+use Rattle.der_elements.proofs.Laws.Readings.{begins-short, rest-cut}
 use borrow.Author.Needs.{needs}
 use Rattle.der.proofs.readings.read_element.Statement.{statement}
 use Rattle.der.proofs.readings.read_element.Tie as tie

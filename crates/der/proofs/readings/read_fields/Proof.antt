@@ -4,7 +4,7 @@ use native.Mathlib.Omega.{arith}
 use lib.ListN.{length}
 use lib.Seq.{length-take-le}
 use borrow.Author.Tests.{not-false, not-true}
-use Rattle.der.proofs.Laws.Readings.{digits-count, front-stored, separated-size}
+use Rattle.der_elements.proofs.Laws.Readings.{digits-count, front-stored, separated-size}
 use Rattle.texts.specs.Texts.{readOf}
 use Rattle.encodings.specs.Encodings.{ofText}
 use borrow.Author.Needs.{needs}

@@ -1,7 +1,7 @@
 -- `readings::read_length` meets its contract: no length, one above 127, one above what follows, or the contents.
 use mathlib.Core.Path.{sym, _∙_}
 use native.Mathlib.Omega.{arith}
-use Rattle.der.proofs.Laws.Readings.{length-above, length-beyond, length-missing, length-within}
+use Rattle.der_elements.proofs.Laws.Readings.{length-above, length-beyond, length-missing, length-within}
 use borrow.Author.Needs.{needs}
 use Rattle.der.proofs.readings.read_length.Statement.{statement}
 use Rattle.der.proofs.readings.read_length.Tie as tie

@@ -25,7 +25,8 @@ abbrev μ-loop : tie.MeasureT-loop
 μ-loop out₀ acc held first end n₀ rest₀ out n rest = n
 
 -- how many whole octets there are
-count : (c : tie.After-octets Inv-loop μ-loop) → let left = c .before .before .before .before .before .args .left in let held = c .before .before .before .begun .result in
+count : (c : tie.After-octets Inv-loop μ-loop) → let left = c .before .before .before .before .before .args .left in
+    let held = c .before .before .before .begun .result in
     (left .count ≡ 8 * c .octets .result .count + held .count) × (held .count < 8)
 count c = cut _ (c .before .before .before .begun .ensures) (c .octets .ensures)
 

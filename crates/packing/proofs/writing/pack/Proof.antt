@@ -32,13 +32,19 @@ short-requires : tie.Need-short-requires
 short-requires c κs = search needs
 
 returns : tie.Need-returns
-returns c = c .short .ensures ∙ packed-fields _ _ (c .before .join2 .ensures .0 ∙ rw (c .before .before .join .ensures .0, c .before .before .before .before .before .before .before .before .before .date-part .ensures .0, c .before .before .before .before .before .before .before .before .clock-part .ensures .0, c .before .before .before .before .before .before .before .after-part .ensures .0) (layout-parts _ _))
+returns c =
+    let a = c .before .before .before .before .before .before .before in
+    let e = layout-parts _ _ (a .before .before .date-part .ensures .0) (a .before .clock-part .ensures .0) (a .after-part .ensures .0) in
+    c .short .ensures ∙ packed-fields _ _ (c .before .join2 .ensures .0 ∙ rw (c .before .before .join .ensures .0) e)
 
 write-requires : tie.Need-write-requires
 write-requires c κs = search needs
 
 returns-2 : tie.Need-returns-2
-returns-2 c = c .write .ensures ∙ packed-fields _ _ (rw (c .before .before .before .before .before .before .before .date-part .ensures .0, c .before .before .before .before .before .before .clock-part .ensures .0, c .before .before .before .before .before .after-part .ensures .0) (layout-parts _ _))
+returns-2 c =
+    let a = c .before .before .before .before .before in
+    let e = layout-parts _ _ (a .before .before .date-part .ensures .0) (a .before .clock-part .ensures .0) (a .after-part .ensures .0) in
+    c .write .ensures ∙ packed-fields _ _ e
 
 pub pack-spec : {M : Type 1} → statement M
 pack-spec =

@@ -1,7 +1,6 @@
 -- `writing::put` meets its contract, by `flush` and the law that joins two numbers' bits.
-use native.Mathlib.Nat.{lt-of-le-of-lt, le-add-right}
 use native.Mathlib.Omega.{arith}
-use Rattle.packing.proofs.Laws.Groups.{joined-fits}
+use Rattle.packing.proofs.Laws.Groups.{joined-fits, shifted-fits}
 use Rattle.packing.proofs.Laws.Writing.{appended}
 use borrow.Author.Needs.{needs}
 use Rattle.packing.proofs.writing.put.Statement.{statement}
@@ -13,7 +12,7 @@ power-requires c κs = search needs
 mul-acc : tie.Need-mul-acc
 mul-acc c =
     let s = c .before .before .before .before in
-    record { fits = lt-of-le-of-lt (le-add-right _ _) (joined-fits _ _ _ _ _ (c .before .power .ensures) (s .pre .0 .small) (s .pre .1 .0 .small) (omega arith)) }
+    record { fits = shifted-fits _ _ _ _ _ (c .before .power .ensures) (s .pre .0 .small) (s .pre .1 .0 .small) (omega arith) }
 
 add-acc : tie.Need-add-acc
 add-acc c =
@@ -31,8 +30,10 @@ same-length c = search needs
 
 returns : tie.Need-returns
 returns c =
-    let s = c .before .before .before .before .before .before .before .before .before .before .before in
-    appended (s .args .pen) (s .pre .0) (s .args .group) (s .pre .1 .0 .small) _ (c .before .before .before .before .before .before .before .before .power .ensures) _ _ _ (c .before .before .flush .ensures)
+    let f = c .before .before in
+    let m = f .before .before .before .before .before .before in
+    let s = m .before .before .before in
+    appended (s .args .pen) (s .pre .0) (s .args .group) (s .pre .1 .0 .small) _ (m .power .ensures) _ _ _ (f .flush .ensures)
 
 pub put-spec : {M : Type 1} → statement M
 put-spec =

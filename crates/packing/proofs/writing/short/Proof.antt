@@ -14,7 +14,10 @@ power-requires : tie.Need-power-requires
 power-requires c κs = search needs
 
 mul-word : tie.Need-mul-word
-mul-word c = let l = word-lt _ _ (c .before .before .before .before .pre .few) (c .before .before .before .before .pre .small) (c .before .power .ensures) in omega arith
+mul-word c =
+    let s = c .before .before .before .before .pre in
+    let l = word-lt _ _ (s .few) (s .small) (c .before .power .ensures) in
+    omega arith
 
 cast-t8 : tie.Need-cast-t8
 cast-t8 c = search needs
@@ -39,7 +42,9 @@ cast-t25 c = search needs
 
 returns : tie.Need-returns
 unfolding groupBits
-returns c = short-packed _ _ _ (c .before .before .before .before .pre .few) (word-of _ _ (c .before .before .before .before .pre .few) (c .before .before .before .before .pre .small) (c .before .power .ensures) refl)
+returns c =
+    let s = c .before .before .before .before .pre in
+    short-packed _ _ _ (s .few) (word-of _ _ (s .few) (s .small) (c .before .power .ensures) refl)
 
 pub short-spec : {M : Type 1} → statement M
 short-spec =

@@ -1,11 +1,9 @@
 -- `writing::write` meets its contract.
-use mathlib.Core.Path.{_≡_, _∙_}
+use mathlib.Core.Path.{_∙_}
 use mathlib.Core.List.{_++_, append-assoc}
-use Prim.Native.Nat.{_+_}
 use native.Mathlib.Omega.{arith}
-use lib.ListN.{length, length-append}
 use Rattle.packing.specs.Groups.{groupBits}
-use Rattle.packing.proofs.Laws.Writing.{Wrote, wrote-put, wrote-finish, wrote-first, length-group, zeros}
+use Rattle.packing.proofs.Laws.Writing.{Wrote, wrote-put, wrote-finish, wrote-first, length-group, length-two, length-three, zeros}
 use Rattle.packing.proofs.Laws.Packed.{packed-bits}
 use borrow.Author.Needs.{needs}
 use Rattle.packing.proofs.writing.write.Statement.{statement}
@@ -45,29 +43,16 @@ put-requires-3 : tie.Need-put-requires-3
 put-requires-3 c κs =
     let w = timed (c .before .before) in
     let a = c .before .before .before .before .before .before .before .args in
-    (w .ready, (search needs, omega (arith, w .place, w .len, length-append (groupBits (a .date)) (groupBits (a .clock)), length-group (a .date), length-group (a .clock))))
+    (w .ready, (search needs, omega (arith, w .place, w .len, length-two (a .date) (a .clock))))
 
 slice-aggregate-finish : tie.Need-slice-aggregate-finish
 slice-aggregate-finish c = search needs
 
--- How many bits there are.
-count : (c : tie.After-put3) → let a = c .before .before .before .before .before .before .before .before .args in
-    a .date .width .count + a .clock .width .count + a .after .width .count ≡ length ((groupBits (a .date) ++ groupBits (a .clock)) ++ groupBits (a .after))
-count c =
-    let a = c .before .before .before .before .before .before .before .before .args in
-    omega (
-      arith,
-      length-append (groupBits (a .date) ++ groupBits (a .clock)) (groupBits (a .after)),
-      length-append (groupBits (a .date)) (groupBits (a .clock)),
-      length-group (a .date),
-      length-group (a .clock),
-      length-group (a .after),
-    )
-
 finish-requires : tie.Need-finish-requires
 finish-requires c κs =
     let w = ended (c .before .before) in
-    (w .ready, omega (arith, w .place, w .len, count (c .before .before)))
+    let a = c .before .before .before .before .before .before .before .before .before .before .args in
+    (w .ready, omega (arith, w .place, w .len, length-three (a .date) (a .clock) (a .after)))
 
 add-count : tie.Need-add-count
 add-count c = omega (arith, c .before .before .before .before .before .before .before .before .before .before .before .before .before .before .pre)
@@ -80,7 +65,8 @@ returns c =
     let f = c .before .before .before .before in
     let e = f .before .before .before in
     let a = e .before .before .before .before .before .before .before .before .args in
-    packed-bits _ _ (f .finish .ensures ∙ wrote-finish (ended e)) (omega (arith, count e)) (append-assoc (groupBits (a .date)) (groupBits (a .clock)) (groupBits (a .after)))
+    let n = length-three (a .date) (a .clock) (a .after) in
+    packed-bits _ _ (f .finish .ensures ∙ wrote-finish (ended e)) (omega arith) (append-assoc (groupBits (a .date)) _ _)
 
 pub write-spec : {M : Type 1} → statement M
 write-spec =

@@ -8,7 +8,7 @@ use Rattle.answers.specs.Outcomes.{outcomeOf, roomOf}
 use Rattle.answers.specs.declared.counts.Octets.{Octets}
 use Rattle.kinds.specs.Coding.{compared}
 use Rattle.per.proofs.Laws.Packed.{packed-bits, packed-front, packed-short}
-use Rattle.values.proofs.Laws.Existing.{printed-text}
+use Rattle.held_values.proofs.Laws.Existing.{printed-text}
 use borrow.Author.Needs.{needs}
 use Rattle.per.proofs.coding.compare.Statement.{statement}
 use Rattle.per.proofs.coding.compare.Tie as tie

@@ -5,8 +5,8 @@ use borrow.Author.Tests.{not-false, not-true}
 use Rattle.answers.specs.Outcomes.{outcomeOf, roomOf}
 use Rattle.kinds.specs.Coding.{decoded, judgedOctets}
 use Rattle.rows.specs.Readings.{readOctets}
-use Rattle.values.proofs.Laws.Existing.{judged-held}
-use Rattle.values.proofs.Laws.Holding.{held}
+use Rattle.held_values.proofs.Laws.Existing.{judged-held}
+use Rattle.held_values.proofs.Laws.Holding.{held}
 use Rattle.per.proofs.Laws.Per.{bits-read, per-judged-as}
 use borrow.Author.Needs.{needs}
 use Rattle.per.proofs.coding.decode.Statement.{statement}

@@ -2,7 +2,7 @@
 use borrow.Author.Needs.{needs}
 use borrow.Author.Tests.{not-true, not-false}
 use Rattle.lists.specs.Lists.{datedList, timedList}
-use Rattle.settings.specs.TypeTexts.{usable}
+use Rattle.type_texts.specs.TypeTexts.{usable}
 use Rattle.settings.proofs.type_text.is_usable.Statement.{statement}
 use Rattle.settings.proofs.type_text.is_usable.Tie as tie
 

@@ -1,7 +1,7 @@
 -- `type_text::list_type` meets its contract.
 use borrow.Author.Needs.{needs}
 use borrow.Author.Tests.{eq-eqb, ne-eqb}
-use Rattle.settings.specs.TypeTexts.{listType}
+use Rattle.type_texts.specs.TypeTexts.{listType}
 use Rattle.settings.proofs.type_text.list_type.Statement.{statement}
 use Rattle.settings.proofs.type_text.list_type.Tie as tie
 

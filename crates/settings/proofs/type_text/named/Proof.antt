@@ -1,7 +1,7 @@
 -- `type_text::named` meets its contract.
 use mathlib.Core.Bool.{or-false}
 use borrow.Author.Tests.{eq-eqb, ne-eqb}
-use Rattle.settings.specs.TypeTexts.{member}
+use Rattle.type_texts.specs.TypeTexts.{member}
 use Rattle.settings.proofs.type_text.named.Statement.{statement}
 use Rattle.settings.proofs.type_text.named.Tie as tie
 

@@ -2,7 +2,7 @@
 use mathlib.Core.Path.{sym, _∙_}
 use borrow.Author.Needs.{needs}
 use borrow.Author.Tests.{not-true, not-false}
-use Rattle.settings.specs.TypeTexts.{allOf, distinct, joined, listType, member, yearsOf}
+use Rattle.type_texts.specs.TypeTexts.{allOf, distinct, joined, listType, member, yearsOf}
 use Rattle.settings.proofs.type_text.one_list.Statement.{statement}
 use Rattle.settings.proofs.type_text.one_list.Tie as tie
 

@@ -3,7 +3,7 @@ use mathlib.Core.Path.{sym}
 use native.Mathlib.Omega.{arith}
 use lib.Seq.{length-take-le}
 use borrow.Author.Needs.{needs}
-use Rattle.settings.proofs.Laws.TypeTexts.{one-list, too-many, two-lists}
+use Rattle.type_texts.proofs.Laws.TypeTexts.{one-list, too-many, two-lists}
 use Rattle.settings.proofs.type_text.read_lists.Statement.{statement}
 use Rattle.settings.proofs.type_text.read_lists.Tie as tie
 

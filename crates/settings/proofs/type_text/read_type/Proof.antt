@@ -1,7 +1,7 @@
 -- `type_text::read_type` meets its contract.
 use mathlib.Core.Path.{sym, _∙_}
 use borrow.Author.Needs.{needs}
-use Rattle.settings.specs.TypeTexts.{typeOf}
+use Rattle.type_texts.specs.TypeTexts.{typeOf}
 use Rattle.settings.proofs.type_text.read_type.Statement.{statement}
 use Rattle.settings.proofs.type_text.read_type.Tie as tie
 

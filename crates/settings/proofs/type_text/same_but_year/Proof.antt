@@ -1,7 +1,7 @@
 -- `type_text::same_but_year` meets its contract.
 use borrow.Author.Needs.{needs}
 use borrow.Author.Tests.{eq-eqb, ne-eqb}
-use Rattle.settings.specs.TypeTexts.{sameButYear}
+use Rattle.type_texts.specs.TypeTexts.{sameButYear}
 use Rattle.settings.proofs.type_text.same_but_year.Statement.{statement}
 use Rattle.settings.proofs.type_text.same_but_year.Tie as tie
 

@@ -1,6 +1,6 @@
 -- `type_text::time_at` meets its contract.
 use borrow.Author.Needs.{needs}
-use Rattle.settings.specs.TypeTexts.{timeAt}
+use Rattle.type_texts.specs.TypeTexts.{timeAt}
 use Rattle.settings.proofs.type_text.time_at.Statement.{statement}
 use Rattle.settings.proofs.type_text.time_at.Tie as tie
 

@@ -2,7 +2,7 @@
 use mathlib.Core.Path.{sym, _∙_}
 use borrow.Author.Needs.{needs}
 use borrow.Author.Tests.{eq-eqb, ne-eqb, not-true, not-false}
-use Rattle.settings.specs.TypeTexts.{allOf, distinct, equalLists, joined, oneRow}
+use Rattle.type_texts.specs.TypeTexts.{allOf, distinct, equalLists, joined, oneRow}
 use Rattle.settings.proofs.type_text.two_lists.Statement.{statement}
 use Rattle.settings.proofs.type_text.two_lists.Tie as tie
 

@@ -1,6 +1,6 @@
 -- `type_text::year_family` meets its contract.
 use borrow.Author.Tests.{le-leb, lt-leb}
-use Rattle.settings.specs.TypeTexts.{yearFamily}
+use Rattle.type_texts.specs.TypeTexts.{yearFamily}
 use Rattle.settings.proofs.type_text.year_family.Statement.{statement}
 use Rattle.settings.proofs.type_text.year_family.Tie as tie
 

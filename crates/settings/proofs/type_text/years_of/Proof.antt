@@ -1,6 +1,6 @@
 -- `type_text::years_of` meets its contract.
 use borrow.Author.Needs.{needs}
-use Rattle.settings.specs.TypeTexts.{yearsOf}
+use Rattle.type_texts.specs.TypeTexts.{yearsOf}
 use Rattle.settings.proofs.type_text.years_of.Statement.{statement}
 use Rattle.settings.proofs.type_text.years_of.Tie as tie
 

@@ -1,7 +1,7 @@
 -- `admission::admit` meets its contract: a type, a text of its form, a value that it holds.
 use mathlib.Core.Path.{sym, _∙_}
 use borrow.Author.Tests.{not-false, not-true}
-use Rattle.values.specs.Admission.{admitted}
+use Rattle.held_values.specs.Admission.{admitted}
 use borrow.Author.Needs.{needs}
 use Rattle.values.proofs.admission.admit.Statement.{statement}
 use Rattle.values.proofs.admission.admit.Tie as tie

@@ -2,7 +2,7 @@
 use mathlib.Core.Path.{_∙_, sym}
 use borrow.Author.Needs.{needs}
 use borrow.Author.Tests.{not-false, not-true}
-use Rattle.values.specs.Admission.{judged}
+use Rattle.held_values.specs.Admission.{judged}
 use Rattle.values.proofs.admission.judge.Statement.{statement}
 use Rattle.values.proofs.admission.judge.Tie as tie
 

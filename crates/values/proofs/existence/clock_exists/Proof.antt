@@ -1,6 +1,6 @@
 -- `existence::clock_exists` meets its contract.
 use borrow.Author.Tests.{eq-eqb, ne-eqb, le-leb, lt-leb}
-use Rattle.values.specs.Existence.{existsClock}
+use Rattle.held_values.specs.Existence.{existsClock}
 use Rattle.values.proofs.existence.clock_exists.Statement.{statement}
 use Rattle.values.proofs.existence.clock_exists.Tie as tie
 

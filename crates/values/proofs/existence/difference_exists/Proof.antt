@@ -2,7 +2,7 @@
 use mathlib.Core.Path.{_≡_}
 use mathlib.Core.Bool.{true, false}
 use borrow.Author.Tests.{le-leb, lt-leb}
-use Rattle.values.specs.Existence.{existsDifference}
+use Rattle.held_values.specs.Existence.{existsDifference}
 use Rattle.values.proofs.existence.difference_exists.Statement.{statement}
 use Rattle.values.proofs.existence.difference_exists.Tie as tie
 

@@ -1,7 +1,7 @@
 -- `existence::fraction_exists` meets its contract.
 use borrow.Author.Tests.{le-leb, lt-leb}
 use borrow.Author.Needs.{needs}
-use Rattle.values.specs.Existence.{existsFraction}
+use Rattle.held_values.specs.Existence.{existsFraction}
 use Rattle.values.proofs.existence.fraction_exists.Statement.{statement}
 use Rattle.values.proofs.existence.fraction_exists.Tie as tie
 

@@ -4,7 +4,7 @@ use mathlib.Core.Bool.{_&&_}
 use borrow.Author.Tests.{not-true, not-false}
 use borrow.Author.Needs.{needs}
 use Rattle.texts.specs.declared.values.Time.{Time}
-use Rattle.values.specs.Existence.{existsFraction, existsZone, existsTime}
+use Rattle.held_values.specs.Existence.{existsFraction, existsZone, existsTime}
 use Rattle.values.proofs.existence.time_exists.Statement.{statement}
 use Rattle.values.proofs.existence.time_exists.Tie as tie
 

@@ -1,7 +1,7 @@
 -- `holding::date_in` meets its contract.
 use borrow.Author.Tests.{not-true, not-false}
 use borrow.Author.Needs.{needs}
-use Rattle.values.specs.Holding.{admitsDate}
+use Rattle.held_values.specs.Holding.{admitsDate}
 use Rattle.values.proofs.holding.date_in.Statement.{statement}
 use Rattle.values.proofs.holding.date_in.Tie as tie
 

@@ -1,6 +1,6 @@
 -- `holding::holds` meets its contract: what exists and is in the type.
 use borrow.Author.Needs.{needs}
-use Rattle.values.specs.Holding.{holdsOf}
+use Rattle.held_values.specs.Holding.{holdsOf}
 use Rattle.values.proofs.holding.holds.Statement.{statement}
 use Rattle.values.proofs.holding.holds.Tie as tie
 

@@ -1,6 +1,6 @@
 -- `holding::in_parts` meets its contract.
 use borrow.Author.Needs.{needs}
-use Rattle.values.proofs.Laws.Holding.{date-time-in}
+use Rattle.held_values.proofs.Laws.Holding.{date-time-in}
 use Rattle.values.proofs.holding.in_parts.Statement.{statement}
 use Rattle.values.proofs.holding.in_parts.Tie as tie
 

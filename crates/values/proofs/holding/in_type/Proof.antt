@@ -1,6 +1,6 @@
 -- `holding::in_type` meets its contract.
 use borrow.Author.Needs.{needs}
-use Rattle.values.specs.Holding.{inType}
+use Rattle.held_values.specs.Holding.{inType}
 use Rattle.values.proofs.holding.in_type.Statement.{statement}
 use Rattle.values.proofs.holding.in_type.Tie as tie
 

@@ -1,6 +1,6 @@
 -- `holding::same_date_form` meets its contract.
 use borrow.Author.Needs.{needs}
-use Rattle.values.specs.Forms.{sameDateForm}
+use Rattle.held_values.specs.Forms.{sameDateForm}
 use Rattle.values.proofs.holding.same_date_form.Statement.{statement}
 use Rattle.values.proofs.holding.same_date_form.Tie as tie
 

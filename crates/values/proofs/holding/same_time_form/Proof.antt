@@ -1,7 +1,7 @@
 -- `holding::same_time_form` meets its contract.
 use borrow.Author.Tests.{eq-eqb, ne-eqb}
 use borrow.Author.Needs.{needs}
-use Rattle.values.specs.Forms.{sameTimeForm}
+use Rattle.held_values.specs.Forms.{sameTimeForm}
 use Rattle.values.proofs.holding.same_time_form.Statement.{statement}
 use Rattle.values.proofs.holding.same_time_form.Tie as tie
 

@@ -3,7 +3,7 @@ use mathlib.Core.Path.{_≡_}
 use mathlib.Core.Bool.{true, false}
 use borrow.Author.Tests.{not-true, not-false}
 use borrow.Author.Needs.{needs}
-use Rattle.values.specs.Holding.{admitsTime}
+use Rattle.held_values.specs.Holding.{admitsTime}
 use Rattle.values.proofs.holding.time_in.Statement.{statement}
 use Rattle.values.proofs.holding.time_in.Tie as tie
 

@@ -1,6 +1,6 @@
 -- `holding::within` meets its contract.
 use borrow.Author.Needs.{needs}
-use Rattle.values.specs.Holding.{between}
+use Rattle.held_values.specs.Holding.{between}
 use Rattle.values.proofs.holding.within.Statement.{statement}
 use Rattle.values.proofs.holding.within.Tie as tie
 

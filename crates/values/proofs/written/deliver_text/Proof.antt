@@ -4,7 +4,7 @@ use native.Mathlib.Omega.{arith}
 use lib.ListN.{length}
 use lib.Seq.{length-take-le}
 use Rattle.printing.specs.Canonical.{textCapacity}
-use Rattle.values.proofs.Laws.Existing.{text-short, text-taken}
+use Rattle.held_values.proofs.Laws.Existing.{text-short, text-taken}
 use borrow.Author.Needs.{needs}
 use Rattle.values.proofs.written.deliver_text.Statement.{statement}
 use Rattle.values.proofs.written.deliver_text.Tie as tie

@@ -2,8 +2,8 @@
 use mathlib.Core.Path.{_∙_, refl, sym}
 use borrow.Author.Tests.{not-false, not-true}
 use Rattle.answers.specs.Outcomes.{outcomeOf, roomOf}
-use Rattle.values.proofs.Laws.Existing.{printed-text}
-use Rattle.values.specs.Written.{written}
+use Rattle.held_values.proofs.Laws.Existing.{printed-text}
+use Rattle.held_values.specs.Written.{written}
 use borrow.Author.Needs.{needs}
 use Rattle.values.proofs.written.write_text.Statement.{statement}
 use Rattle.values.proofs.written.write_text.Tie as tie

@@ -1,0 +1,35 @@
+-- DER of dates and times as a kind of value with an encoding. A type's tag goes by its name.
+use Prim.Native.Nat.{ℕ}
+use mathlib.Core.List.{List}
+use Rattle.answers.specs.Outcomes.{Answer}
+use Rattle.answers.specs.declared.counts.Bits.{Bits}
+use Rattle.texts.specs.declared.forms.Form.{Form}
+use Rattle.texts.specs.declared.values.Value.{Value}
+use Rattle.types.specs.Types.{nameOf}
+use Rattle.types.specs.declared.types.Name.{Name}
+use Rattle.types.specs.declared.types.«Type».{«Type» as Ty}
+use Rattle.kinds.specs.Kinds.{Kind}
+use Rattle.kinds.specs.Coding.{encoded, decoded}
+use Rattle.encodings.specs.Encodings.{Encoding, encodedBy}
+use Rattle.der_elements.specs.Elements.{elementOf}
+use Rattle.der_elements.specs.Readings.{readElement}
+
+-- "the bit count: .. in DER 0"
+abbrev pub noBits : Bits
+noBits = record { count = 0 }
+
+-- DER goes by a type's name.
+abbrev pub inDer : Encoding Name
+inDer = record { row = nameOf; encoding = elementOf; count = λ name v. noBits; readOctets = readElement }
+
+-- Dates and times in it.
+abbrev pub der : Kind Ty Form Name Value
+der = encodedBy inDer
+
+-- What encoding a text answers, ..
+abbrev pub derEncoded : Ty → List ℕ → Answer
+derEncoded t text = encoded der t text
+
+-- .. and what decoding octets does.
+abbrev pub derDecoded : Ty → List ℕ → Answer
+derDecoded t octets = decoded der t octets

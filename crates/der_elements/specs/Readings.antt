@@ -1,0 +1,53 @@
+-- "Octets": what an element gives, however it should have been written. Octets after it are left.
+use Prim.Native.Nat.{ℕ}
+use mathlib.Core.Bool.{Bool, true, _&&_, cond}
+use mathlib.Core.List.{List, [], _∷_, _++_}
+use lib.Dec.{eqb, leb}
+use lib.ListN.{length, take, drop}
+use Rattle.octets.specs.Octets.{eqList}
+use Rattle.texts.specs.Octets.{hyphen, colon, letterT, isDigit}
+use Rattle.texts.specs.Texts.{readOf}
+use Rattle.texts.specs.declared.forms.Form.{Form}
+use Rattle.texts.specs.declared.values.Value.{Value}
+use Rattle.types.specs.declared.types.Name.{Name}
+use mathlib.Core.Option.{Option, none}
+use Rattle.encodings.specs.Encodings.{ofText}
+use Rattle.der_elements.specs.Elements.{tagOf}
+
+-- Whether all octets are digits.
+unfoldable pub allDigits : List ℕ → Bool
+allDigits [] = true
+allDigits (c ∷ l) = isDigit c && allDigits l
+
+-- "the contents are 8, 6 or 14 digits"
+unfoldable pub digitsOnly : ℕ → List ℕ → Bool
+digitsOnly n l = eqb (length l) n && allDigits l
+
+-- Three fields with the octet c between them, from their digits: w for the first, and two for the second.
+unfoldable pub separated : ℕ → ℕ → List ℕ → List ℕ
+separated c w l = take w l ++ c ∷ (take 2 (drop w l) ++ c ∷ drop 2 (drop w l))
+
+-- The text of a date from its digits, ..
+abbrev pub dated : List ℕ → List ℕ
+dated = separated hyphen 4
+
+-- .. and of a time.
+abbrev pub timed : List ℕ → List ℕ
+timed = separated colon 2
+
+-- "Under these three tags the contents are 8, 6 or 14 digits; any other octet or count is refusal 3"; under 0E they are the text.
+abbrev pub readContents : Name → Form → List ℕ → Option Value
+readContents Name.Listed form l = ofText (readOf form l)
+readContents Name.Date form l = cond (digitsOnly 8 l) (ofText (readOf form (dated l))) none
+readContents Name.TimeOfDay form l = cond (digitsOnly 6 l) (ofText (readOf form (timed l))) none
+readContents Name.DateTime form l = cond (digitsOnly 14 l) (ofText (readOf form (dated (take 8 l) ++ letterT ∷ timed (drop 8 l)))) none
+
+-- 3: "the DER length above 127, missing, or above the octets that follow".
+abbrev pub readLength : Name → Form → List ℕ → Option Value
+readLength name form [] = none
+readLength name form (n ∷ l) = cond (leb n 127 && leb n (length l)) (readContents name form (take n l)) none
+
+-- 3: "tag wrong".
+unfoldable pub readElement : Name → Form → List ℕ → Option Value
+readElement name form octets =
+    cond (eqList (take (length (tagOf name)) octets) (tagOf name)) (readLength name form (drop (length (tagOf name)) octets)) none

@@ -1,0 +1,93 @@
+-- What a type holds. Years are astronomical years, and ranges have both their ends.
+use mathlib.Core.Bool.{Bool, true, not, _&&_, _||_}
+use lib.Dec.{eqb}
+use lib.IntN.{ℤ, pos, negsuc}
+use lib.Signed.{leZ}
+use Rattle.calendar.specs.Years.{astronomicalOf}
+use Rattle.calendar.specs.declared.dates.Date.{Date}
+use Rattle.texts.specs.declared.values.Time.{Time}
+use Rattle.texts.specs.declared.values.Value.{Value}
+use Rattle.types.specs.declared.types.PlainYears.{PlainYears}
+use Rattle.types.specs.declared.types.SignedYears.{SignedYears}
+use Rattle.types.specs.declared.types.Years.{Years}
+use Rattle.types.specs.declared.types.Window.{Window}
+use Rattle.types.specs.declared.types.DateType.{DateType}
+use Rattle.types.specs.declared.types.TimeType.{TimeType}
+use Rattle.types.specs.declared.types.Parts.{Parts}
+use Rattle.types.specs.declared.types.«Type».{«Type» as Ty}
+use Rattle.texts.specs.Forms.{yearOf, valueForm}
+use Rattle.types.specs.Types.{formOf, partsOf}
+use Rattle.held_values.specs.Forms.{sameForm}
+use Rattle.held_values.specs.Existence.{hoursOf, existsValue}
+
+-- A year from the lowest to the highest.
+unfoldable pub between : ℤ → ℤ → ℤ → Bool
+between lowest highest y = leZ lowest y && leZ y highest
+
+-- "`Year`: Basic (1582 to 9999), ..
+abbrev pub inBasic : ℤ → Bool
+inBasic y = between (pos 1582) (pos 9999) y
+
+-- .. Proleptic (0000 to 1581), ..
+abbrev pub inProleptic : ℤ → Bool
+inProleptic y = between (pos 0) (pos 1581) y
+
+-- .. Negative (-9999 to -0001), .. (`negsuc k` is -(k + 1))
+abbrev pub inNegative : ℤ → Bool
+inNegative y = between (negsuc 9998) (negsuc 0) y
+
+-- .. L5 (five digits after a sign, first digit not 0)".
+abbrev pub inFive : ℤ → Bool
+inFive y = between (negsuc 99998) (negsuc 9999) y || between (pos 10000) (pos 99999) y
+
+-- "each year is of a Year setting that the type names": one of the row without a sign, ..
+abbrev pub inPlain : PlainYears → ℤ → Bool
+inPlain names y = names .basic && inBasic y || names .proleptic && inProleptic y
+
+-- .. or one of the row with a sign.
+abbrev pub inSigned : SignedYears → ℤ → Bool
+inSigned names y = names .negative && inNegative y || names .five && inFive y
+
+-- The settings are those of one row, "Basic with Proleptic or Negative with L5".
+abbrev pub inYears : Years → ℤ → Bool
+inYears (Years.Plain names) y = inPlain names y
+inYears (Years.Signed names) y = inSigned names y
+
+-- "a lowest and a highest year"
+abbrev pub inWindow : Window → ℤ → Bool
+inWindow Window.Every y = true
+inWindow (Window.Within lowest highest) y = between (astronomicalOf lowest) (astronomicalOf highest) y
+
+-- What a type asks of a date besides its form: the year, ..
+unfoldable pub admitsDate : DateType → Date → Bool
+admitsDate t date = inYears (t .years) (astronomicalOf (yearOf date)) && inWindow (t .window) (astronomicalOf (yearOf date))
+
+-- .. and of a time: not hour 24, where the type has "no hour 24".
+unfoldable pub admitsTime : TimeType → Time → Bool
+admitsTime t time = t .hour24 || not (eqb (hoursOf (time .clock)) 24)
+
+-- The same of a value: of its date, where it has one, ..
+abbrev pub admitsDateOf : DateType → Value → Bool
+admitsDateOf t (Value.Date date) = admitsDate t date
+admitsDateOf t (Value.Time time) = true
+admitsDateOf t (Value.DateTime date time) = admitsDate t date
+
+-- .. and of its time.
+abbrev pub admitsTimeOf : TimeType → Value → Bool
+admitsTimeOf t (Value.Date date) = true
+admitsTimeOf t (Value.Time time) = admitsTime t time
+admitsTimeOf t (Value.DateTime date time) = admitsTime t time
+
+-- "each year is of a Year setting that the type names, and the type's restrictions are met"
+abbrev pub admits : Parts → Value → Bool
+admits (Parts.Date date) value = admitsDateOf date value
+admits (Parts.Time time) value = admitsTimeOf time value
+admits (Parts.DateTime date time) value = admitsDateOf date value && admitsTimeOf time value
+
+-- "the canonical text is of the type's form", and the type admits the value.
+unfoldable pub inType : Ty → Value → Bool
+inType t value = sameForm (valueForm value) (formOf t) && admits (partsOf t) value
+
+-- "A type holds a value, one that exists by the rules below, when .."
+unfoldable pub holdsOf : Ty → Value → Bool
+holdsOf t value = existsValue value && inType t value

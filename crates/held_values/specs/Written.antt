@@ -1,0 +1,20 @@
+-- The canonical text of a value as an answer.
+use Prim.Native.Nat.{ℕ}
+use mathlib.Core.Bool.{cond}
+use mathlib.Core.List.{List, []}
+use lib.Dec.{leb}
+use Rattle.answers.specs.declared.counts.Bits.{Bits}
+use Rattle.answers.specs.declared.refusals.Refusal.{Refusal}
+use Rattle.answers.specs.Outcomes.{Answer, done, refused}
+use Rattle.texts.specs.declared.values.Value.{Value}
+use Rattle.texts.specs.Forms.{formDigits, valueForm}
+use Rattle.texts.specs.Texts.{textOf}
+use Rattle.held_values.specs.Existence.{existsValue}
+
+-- The canonical text, where there are at most nine fraction digits, as in every value that exists; else none.
+unfoldable pub printed : Value → List ℕ
+printed v = cond (leb (formDigits (valueForm v)) 9) (textOf v) []
+
+-- The text has no bits of its own: they are those of the encoding that it was read from. Of no such value there is none.
+unfoldable pub written : Bits → Value → Answer
+written bits v = cond (existsValue v) (done (textOf v) bits) (refused Refusal.Existence)

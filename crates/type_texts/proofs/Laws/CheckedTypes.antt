@@ -1,0 +1,238 @@
+-- Checked values of the definitions of types: one table of type texts with their numbers, one of types that select the
+-- same rows or not, and one of fraction digits, each closed by computation. The paper gives their rows.
+use mathlib.Core.Path.{_≡_, refl}
+use mathlib.Core.Bool.{Bool, true, false, Bool·beq, _&&_}
+use mathlib.Core.List.{List, [], _∷_}
+use Prim.Native.Nat.{ℕ}
+use Prim.Native.String.{String}
+use lib.Dec.{eqb}
+use lib.IntN.{pos}
+use Rattle.octets.specs.Octets.{bytes, eqList}
+use Rattle.octets.specs.Pieces.{splitOn}
+use Rattle.calendar.specs.Years.{yearAt}
+use Rattle.types.specs.Numbers.{dateAt, clockAt, zoneAt}
+use Rattle.types.specs.Types.{typeNumber, placed, limitedTo, noLimits, fractionDigits}
+use Rattle.types.specs.Rows.{timeNumber, sameRow, sameRows}
+use Rattle.lists.specs.Words.{placeFrom, fractionNumber, pairOf}
+use Rattle.lists.specs.Lists.{addPair, addPairs, datedList, timedList, complete, completed, listOf}
+use Rattle.type_texts.specs.TypeTexts.{listsOf, sameButYear, yearFamily, oneRow, equalLists, allOf, distinct, usable, member, yearsOf, timeAt, listType, joined, typeOf}
+use Rattle.types.specs.declared.types.Window.{Window}
+use Rattle.types.specs.declared.types.Limits.{Limits}
+use Rattle.types.specs.declared.types.TypeRead.{TypeRead}
+
+abbrev pub from2000 : Limits
+from2000 = record { window = Window.Within (yearAt (pos 2000)) (yearAt (pos 2099)); hour24 = true }
+
+-- a lowest year above the highest
+abbrev pub noYears : Limits
+noYears = record { window = Window.Within (yearAt (pos 2001)) (yearAt (pos 2000)); hour24 = true }
+
+abbrev pub noHour24 : Limits
+noHour24 = record { window = Window.Every; hour24 = false }
+
+abbrev pub bothLimits : Limits
+bothLimits = record { window = Window.Within (yearAt (pos 2000)) (yearAt (pos 2099)); hour24 = false }
+
+-- a type's text, its limits, and the number that they give
+data TextRow : Type 0 where
+  text : String → Limits → ℕ → TextRow
+
+texts : List TextRow
+texts =
+    -- the names, and settings in any order
+    text "DATE" noLimits 0 ∷
+    text "TIME-OF-DAY" noLimits 0 ∷
+    text "DATE-TIME" noLimits 0 ∷
+    text "Basic=Date Date=YMD Year=Basic" noLimits 0 ∷
+    text "Year=Proleptic Date=Y Basic=Date" noLimits 0 ∷
+    text "Date=YW Basic=Date Year=Negative" noLimits 0 ∷
+    text "Basic=Time Time=HF1 Local-or-UTC=L" noLimits 0 ∷
+    text "Local-or-UTC=Z Basic=Time Time=HMF9" noLimits 0 ∷
+    text "Basic=Time Time=HMSF3 Local-or-UTC=LD" noLimits 0 ∷
+    text "Basic=Date-Time Date=YWD Year=L5 Time=HM Local-or-UTC=Z" noLimits 0 ∷
+    -- two lists of one row
+    text "Basic=Date Date=Y Year=Basic|Basic=Date Date=Y Year=Proleptic" noLimits 0 ∷
+    text "Basic=Date Date=YD Year=L5|Year=Negative Date=YD Basic=Date" noLimits 0 ∷
+    text "Basic=Date-Time Date=YM Year=Negative Time=HMS Local-or-UTC=LD|Basic=Date-Time Date=YM Year=L5 Time=HMS Local-or-UTC=LD" noLimits 0 ∷
+    -- unreadable: empty, a space too many, lower case, unknown
+    text "" noLimits 1 ∷
+    text "|" noLimits 1 ∷
+    text " " noLimits 1 ∷
+    text "Basic=Date Date=Y Year=Basic|" noLimits 1 ∷
+    text "|Basic=Date Date=Y Year=Basic" noLimits 1 ∷
+    text "Basic=Date  Date=Y Year=Basic" noLimits 1 ∷
+    text " Basic=Date Date=Y Year=Basic" noLimits 1 ∷
+    text "Basic=Date Date=Y Year=Basic " noLimits 1 ∷
+    text "Basic=Date Date=Y Year=Basic |Basic=Date Date=Y Year=Proleptic" noLimits 1 ∷
+    text "Basic=Date Date=Y Year=Basic| Basic=Date Date=Y Year=Proleptic" noLimits 1 ∷
+    text "date" noLimits 1 ∷
+    text "basic=Date Date=Y Year=Basic" noLimits 1 ∷
+    text "Basic=Date Date=Y Year=Basic Midnight=Start" noLimits 1 ∷
+    text "Basic=Date Date=DMY Year=Basic" noLimits 1 ∷
+    text "Basic=Date Date=Y Year=L6" noLimits 1 ∷
+    text "Basic=Time Time=HS Local-or-UTC=L" noLimits 1 ∷
+    text "Basic=Time Time=HF Local-or-UTC=L" noLimits 1 ∷
+    text "Basic=Time Time=HF0 Local-or-UTC=L" noLimits 1 ∷
+    text "Basic=Time Time=HF10 Local-or-UTC=L" noLimits 1 ∷
+    text "Basic=Time Time=H3 Local-or-UTC=L" noLimits 1 ∷
+    -- not in the base: centuries and intervals
+    text "Basic=Date Date=C Year=Basic" noLimits 1 ∷
+    text "Basic=Interval Interval-type=D Duration" noLimits 1 ∷
+    -- missing, or where it has no place
+    text "Date=Y Year=Basic" noLimits 1 ∷
+    text "Basic=Date Date=Y" noLimits 1 ∷
+    text "Basic=Date Year=Basic" noLimits 1 ∷
+    text "Basic=Time Time=H" noLimits 1 ∷
+    text "Basic=Time Local-or-UTC=L" noLimits 1 ∷
+    text "Basic=Date-Time Date=Y Year=Basic" noLimits 1 ∷
+    text "Basic=Date Date=Y Year=Basic Time=H Local-or-UTC=L" noLimits 1 ∷
+    text "Basic=Time Date=Y Year=Basic Time=H Local-or-UTC=L" noLimits 1 ∷
+    -- repeated: a property, a list, its Year, a list in another order
+    text "Basic=Date Date=Y Year=Basic Year=Basic" noLimits 1 ∷
+    text "Basic=Date Date=Y Date=YM Year=Basic" noLimits 1 ∷
+    text "Basic=Date Date=Y Year=Basic|Basic=Date Date=Y Year=Basic" noLimits 1 ∷
+    text "Basic=Date Date=Y Year=Basic|Year=Basic Date=Y Basic=Date" noLimits 1 ∷
+    text "Basic=Time Time=H Local-or-UTC=L|Basic=Time Time=H Local-or-UTC=L" noLimits 1 ∷
+    text "Basic=Date-Time Date=YMD Year=Basic Time=HMSF3 Local-or-UTC=L|Basic=Date-Time Date=YMD Year=Basic Time=HMSF3 Local-or-UTC=L" noLimits 1 ∷
+    text "Basic=Date-Time Date=YMD Year=Basic Time=HMSF3 Local-or-UTC=L|Local-or-UTC=L Time=HMSF3 Year=Basic Date=YMD Basic=Date-Time" noLimits 1 ∷
+    -- three lists, and a name beside a bar
+    text "Basic=Date Date=Y Year=Basic|Basic=Date Date=Y Year=Proleptic|Basic=Date Date=Y Year=L5" noLimits 1 ∷
+    text "DATE|DATE" noLimits 1 ∷
+    text "DATE|TIME-OF-DAY" noLimits 1 ∷
+    text "Basic=Date Date=YMD Year=Proleptic|DATE" noLimits 1 ∷
+    text "DATE Year=Proleptic" noLimits 1 ∷
+    -- two lists of two rows
+    text "Basic=Date Date=Y Year=Basic|Basic=Date Date=Y Year=Negative" noLimits 2 ∷
+    text "Basic=Date Date=Y Year=L5|Basic=Date Date=Y Year=Proleptic" noLimits 2 ∷
+    text "Basic=Date Date=Y Year=Basic|Basic=Date Date=YM Year=Basic" noLimits 2 ∷
+    text "Basic=Date Date=Y Year=Basic|Basic=Date Date=YM Year=Proleptic" noLimits 2 ∷
+    text "Basic=Time Time=H Local-or-UTC=L|Basic=Time Time=HM Local-or-UTC=L" noLimits 2 ∷
+    text "Basic=Time Time=HMSF3 Local-or-UTC=L|Basic=Time Time=HMSF4 Local-or-UTC=L" noLimits 2 ∷
+    text "Basic=Time Time=H Local-or-UTC=L|Basic=Time Time=H Local-or-UTC=Z" noLimits 2 ∷
+    text "Basic=Date Date=Y Year=Basic|Basic=Time Time=H Local-or-UTC=L" noLimits 2 ∷
+    text "Basic=Date Date=Y Year=Basic|Basic=Date-Time Date=Y Year=Proleptic Time=H Local-or-UTC=L" noLimits 2 ∷
+    text "Basic=Date-Time Date=Y Year=Basic Time=H Local-or-UTC=L|Basic=Date-Time Date=Y Year=Proleptic Time=H Local-or-UTC=LD" noLimits 2 ∷
+    -- date-times with one Year that differ in Date alone, in Time alone, in n alone and in Local-or-UTC alone, and those of two rows' Years
+    text "Basic=Date-Time Date=YMD Year=Basic Time=HMSF3 Local-or-UTC=L|Basic=Date-Time Date=YD Year=Basic Time=HMSF3 Local-or-UTC=L" noLimits 2 ∷
+    text "Basic=Date-Time Date=YMD Year=Basic Time=HMSF3 Local-or-UTC=L|Basic=Date-Time Date=YMD Year=Basic Time=HMF3 Local-or-UTC=L" noLimits 2 ∷
+    text "Basic=Date-Time Date=YMD Year=Basic Time=HMSF3 Local-or-UTC=L|Basic=Date-Time Date=YMD Year=Basic Time=HMS Local-or-UTC=L" noLimits 2 ∷
+    text "Basic=Date-Time Date=YMD Year=Basic Time=HMSF3 Local-or-UTC=L|Basic=Date-Time Date=YMD Year=Basic Time=HMSF4 Local-or-UTC=L" noLimits 2 ∷
+    text "Basic=Date-Time Date=YMD Year=Basic Time=HMSF3 Local-or-UTC=L|Basic=Date-Time Date=YMD Year=Basic Time=HMSF3 Local-or-UTC=Z" noLimits 2 ∷
+    text "Basic=Date-Time Date=YMD Year=Basic Time=HMSF3 Local-or-UTC=L|Basic=Date-Time Date=YMD Year=Negative Time=HMSF3 Local-or-UTC=L" noLimits 2 ∷
+    text "Basic=Date-Time Date=YMD Year=L5 Time=HMSF3 Local-or-UTC=L|Basic=Date-Time Date=YMD Year=Proleptic Time=HMSF3 Local-or-UTC=L" noLimits 2 ∷
+    -- a date or a time beside both, with one Year
+    text "Basic=Time Time=HMSF3 Local-or-UTC=L|Basic=Date-Time Date=YMD Year=Basic Time=HMSF3 Local-or-UTC=L" noLimits 2 ∷
+    text "Basic=Date Date=YMD Year=Basic|Basic=Date-Time Date=YMD Year=Basic Time=HMSF3 Local-or-UTC=L" noLimits 2 ∷
+    -- 1 before 2
+    text "Basic=Date Date=Y Year=Basic|Basic=Time Time=H" noLimits 1 ∷
+    text "Basic=Date Date=Y Year=Basic|Basic=Date Date=YM Year=L5|Basic=Time Time=H Local-or-UTC=L" noLimits 1 ∷
+    -- restrictions, with their place and without it, and before 2
+    text "DATE" from2000 0 ∷
+    text "DATE" noHour24 1 ∷
+    text "DATE" bothLimits 1 ∷
+    text "TIME-OF-DAY" from2000 1 ∷
+    text "TIME-OF-DAY" noHour24 0 ∷
+    text "DATE-TIME" bothLimits 0 ∷
+    text "DATE" noYears 0 ∷
+    text "Basic=Date Date=Y Year=Basic|Basic=Date Date=Y Year=Proleptic" from2000 0 ∷
+    text "Basic=Time Time=H Local-or-UTC=L" from2000 1 ∷
+    text "Basic=Date Date=Y Year=L5" noHour24 1 ∷
+    text "Basic=Date Date=Y Year=Basic|Basic=Time Time=H Local-or-UTC=L" from2000 1 ∷
+    text "Basic=Time Time=H Local-or-UTC=L|Basic=Date Date=Y Year=Basic" noHour24 1 ∷
+    text "Basic=Date-Time Date=YMD Year=Basic Time=HMSF3 Local-or-UTC=L|Basic=Date Date=YMD Year=Basic" noHour24 1 ∷
+    text "Basic=Date-Time Date=YMD Year=Basic Time=HMSF3 Local-or-UTC=L|Basic=Time Time=HMSF3 Local-or-UTC=L" from2000 1 ∷
+    text "Basic=Date Date=YMD Year=Basic|Basic=Time Time=HMSF3 Local-or-UTC=L" bothLimits 1 ∷
+    text "Basic=Date Date=Y Year=Basic|Basic=Date Date=YM Year=Basic" from2000 2 ∷
+    []
+
+textsRight : List TextRow → Bool
+textsRight [] = true
+textsRight (text s limits number ∷ l) = eqb (typeNumber (typeOf limits (bytes s))) number && textsRight l
+
+texts-checked : textsRight texts ≡ true
+unfolding texts textsRight typeOf joined listType timeAt yearsOf member usable distinct allOf equalLists oneRow yearFamily sameButYear listsOf listOf completed complete timedList datedList addPairs addPair splitOn pairOf fractionNumber placeFrom limitedTo placed zoneAt clockAt dateAt eqList
+texts-checked = refl
+
+-- two types, with limits or without, and whether they select the same rows
+data PairRow : Type 0 where
+  pair : String → String → Bool → PairRow
+  limited : String → Limits → String → Limits → Bool → PairRow
+
+pairs : List PairRow
+pairs =
+    pair "DATE" "Basic=Date Date=YMD Year=Basic" true ∷
+    pair "DATE" "Basic=Date Date=YMD Year=Proleptic" true ∷
+    pair "DATE" "Basic=Date Date=YMD Year=Basic|Basic=Date Date=YMD Year=Proleptic" true ∷
+    pair "DATE" "Basic=Date Date=YMD Year=L5" false ∷
+    pair "Basic=Date Date=Y Year=Negative" "Basic=Date Date=Y Year=L5" true ∷
+    pair "Basic=Date Date=Y Year=Negative|Basic=Date Date=Y Year=L5" "Basic=Date Date=Y Year=Proleptic" false ∷
+    pair "DATE" "Basic=Date Date=YD Year=Basic" false ∷
+    pair "TIME-OF-DAY" "Basic=Time Time=HMS Local-or-UTC=L" true ∷
+    pair "Basic=Time Time=HMSF3 Local-or-UTC=L" "Basic=Time Time=HMSF5 Local-or-UTC=L" true ∷
+    pair "TIME-OF-DAY" "Basic=Time Time=HMSF3 Local-or-UTC=L" false ∷
+    pair "Basic=Time Time=HF1 Local-or-UTC=L" "Basic=Time Time=HMF1 Local-or-UTC=L" false ∷
+    pair "TIME-OF-DAY" "Basic=Time Time=HMS Local-or-UTC=Z" false ∷
+    pair "Basic=Time Time=H Local-or-UTC=LD" "Basic=Time Time=H Local-or-UTC=L" false ∷
+    pair "DATE" "TIME-OF-DAY" false ∷
+    pair "DATE" "DATE-TIME" false ∷
+    pair "TIME-OF-DAY" "DATE-TIME" false ∷
+    pair "DATE-TIME" "Basic=Date-Time Date=YMD Year=Proleptic Time=HMS Local-or-UTC=L" true ∷
+    pair "DATE-TIME" "Basic=Date-Time Date=YMD Year=Negative Time=HMS Local-or-UTC=L" false ∷
+    pair "Basic=Date-Time Date=YW Year=L5 Time=HMF2 Local-or-UTC=LD" "Basic=Date-Time Date=YW Year=L5 Time=HMF9 Local-or-UTC=LD" true ∷
+    pair "Basic=Date-Time Date=YW Year=L5 Time=HMF2 Local-or-UTC=LD" "Basic=Date-Time Date=YWD Year=L5 Time=HMF2 Local-or-UTC=LD" false ∷
+    pair "Basic=Date-Time Date=YW Year=L5 Time=HMF2 Local-or-UTC=LD" "Basic=Date-Time Date=YW Year=L5 Time=HMF2 Local-or-UTC=Z" false ∷
+    -- "restrictions don't count"
+    limited "DATE" from2000 "Basic=Date Date=YMD Year=Basic" noLimits true ∷
+    limited "DATE" noLimits "DATE" noYears true ∷
+    limited "Basic=Date Date=Y Year=Negative" noYears "Basic=Date Date=Y Year=L5" from2000 true ∷
+    limited "TIME-OF-DAY" noHour24 "TIME-OF-DAY" noLimits true ∷
+    limited "Basic=Time Time=HF1 Local-or-UTC=Z" noLimits "Basic=Time Time=HF2 Local-or-UTC=Z" noHour24 true ∷
+    limited "DATE-TIME" bothLimits "DATE-TIME" noHour24 true ∷
+    limited "DATE" from2000 "Basic=Date Date=YMD Year=L5" from2000 false ∷
+    limited "TIME-OF-DAY" noHour24 "Basic=Time Time=HM Local-or-UTC=L" noHour24 false ∷
+    limited "DATE" from2000 "DATE-TIME" from2000 false ∷
+    []
+
+alike : TypeRead → TypeRead → Bool → Bool
+alike (TypeRead.«Type» a) (TypeRead.«Type» b) expected = Bool·beq (sameRows a b) expected
+alike (TypeRead.«Type» a) TypeRead.Unreadable expected = false
+alike (TypeRead.«Type» a) TypeRead.NoRow expected = false
+alike TypeRead.Unreadable r expected = false
+alike TypeRead.NoRow r expected = false
+
+pairsRight : List PairRow → Bool
+pairsRight [] = true
+pairsRight (pair s t expected ∷ l) = alike (typeOf noLimits (bytes s)) (typeOf noLimits (bytes t)) expected && pairsRight l
+pairsRight (limited s m t n expected ∷ l) = alike (typeOf m (bytes s)) (typeOf n (bytes t)) expected && pairsRight l
+
+pairs-checked : pairsRight pairs ≡ true
+unfolding pairs pairsRight alike timeNumber sameRow sameRows typeOf joined listType timeAt yearsOf member usable distinct allOf equalLists oneRow yearFamily sameButYear listsOf listOf completed complete timedList datedList addPairs addPair splitOn pairOf fractionNumber placeFrom limitedTo placed zoneAt clockAt dateAt eqList
+pairs-checked = refl
+
+-- a type, and the number of its fraction digits
+data DigitsRow : Type 0 where
+  count : String → ℕ → DigitsRow
+
+digits : List DigitsRow
+digits =
+    count "DATE" 0 ∷
+    count "TIME-OF-DAY" 0 ∷
+    count "DATE-TIME" 0 ∷
+    count "Basic=Time Time=HF1 Local-or-UTC=L" 1 ∷
+    count "Basic=Time Time=HMSF3 Local-or-UTC=Z" 3 ∷
+    count "Basic=Time Time=HMF9 Local-or-UTC=LD" 9 ∷
+    count "Basic=Date-Time Date=YD Year=L5 Time=HMSF6 Local-or-UTC=L" 6 ∷
+    []
+
+has : TypeRead → ℕ → Bool
+has (TypeRead.«Type» t) n = eqb (fractionDigits t) n
+has TypeRead.Unreadable n = false
+has TypeRead.NoRow n = false
+
+digitsRight : List DigitsRow → Bool
+digitsRight [] = true
+digitsRight (count s n ∷ l) = has (typeOf noLimits (bytes s)) n && digitsRight l
+
+digits-checked : digitsRight digits ≡ true
+unfolding digits digitsRight has typeOf joined listType timeAt yearsOf member usable distinct allOf equalLists oneRow yearFamily sameButYear listsOf listOf completed complete timedList datedList addPairs addPair splitOn pairOf fractionNumber placeFrom limitedTo placed zoneAt clockAt dateAt eqList
+digits-checked = refl

@@ -1,0 +1,229 @@
+-- Nothing ill-formed is ever read.
+use mathlib.Core.Path.{_≡_, refl, sym, _∙_, subst}
+use mathlib.Core.List.{List, [], _∷_, map}
+use mathlib.Core.Bool.{Bool, true, false, _&&_, _||_, not, cond, and-eq-true-iff, or-true, false≢true}
+use Prim.Native.Nat.{ℕ, zero, suc, _+_, _-_, _*_, _/_, _<_, _≤_}
+use native.Mathlib.Omega.{arith}
+use lib.Dec.{eqb, ltb, leb}
+use lib.ListN.{length, getD, set, take, length-set}
+use lib.Seq.{getD-set-same, getD-set-other}
+use borrow.Author.Tests.{leb-true, le-leb, eqb-true, eqb-false, ne-eqb, not-true}
+use Rattle.octets.specs.Octets.{bytes, eqList}
+use Rattle.octets.specs.Pieces.{splitOn}
+use Rattle.octets.proofs.Laws.Cases.{cond-le}
+use Rattle.types.specs.Types.{DATE, TIME-OF-DAY, DATE-TIME, hasDate, hasTime, placed, restricted, limitedTo, someYear, wellParts, wellFormed, partsOf, carrying}
+use Rattle.lists.specs.Words.{placeIn, yearWords, clockWords, fractionWords, withDigits, fractionNumber, firstNumber, pairOf}
+use Rattle.lists.specs.Lists.{settings, noneYet, refusedList, addPair, addPairs, basicIn, dateIn, yearIn, timeIn, zoneIn, datedList, timedList, presentIf, complete, completed, listOf}
+use Rattle.type_texts.specs.TypeTexts.{listsOf, allOf, usable, distinct, oneRow, member, yearsOf, timeAt, listType, joined, typeOf}
+use Rattle.types.specs.declared.types.Years.{Years}
+use Rattle.types.specs.declared.types.Parts.{Parts}
+use Rattle.types.specs.declared.types.«Type».{«Type»}
+use Rattle.types.specs.declared.types.Limits.{Limits}
+use Rattle.types.specs.declared.types.TypeRead.{TypeRead}
+use Rattle.lists.specs.declared.words.Pair.{Pair}
+use Rattle.lists.specs.declared.lists.Settings.{Settings}
+use Rattle.lists.proofs.Laws.Words.{place-in}
+use Rattle.lists.proofs.Laws.Lists.{every-pair, five-properties}
+
+-- ---- The numbers of a list's Year and Time.
+
+fraction-le : (l : List ℕ) → fractionNumber l ≤ 99
+unfolding fractionNumber
+fraction-le l = go (leb 49 d && leb d 57) refl where
+  d : ℕ
+  d = getD l (length l - 1) 0
+
+  w : ℕ
+  w = placeIn fractionWords (take (length l - 1) l)
+
+  go : (t : Bool) → (leb 49 d && leb d 57) ≡ t → cond t (withDigits (d - 48) w) 0 ≤ 99
+  go true e =
+      let p : (leb 49 d ≡ true) × (leb d 57 ≡ true) = and-eq-true-iff _ _ .0 e in
+      let h : d ≤ 57 = leb-true d 57 (p .1) in
+      let k : w ≤ 3 = place-in fractionWords (take (length l - 1) l) refl in
+      cond-le (eqb w 0) 0 ((d - 48) * 10 + w) 99 (omega arith) (omega arith)
+  go false e = omega arith
+
+record InRange (p : Pair) : Type 0 where
+  year : p .property ≡ 2 → p .setting ≤ 4
+  time : p .property ≡ 3 → p .setting ≤ 99
+
+pair-in-range : (l : List ℕ) → InRange (pairOf l)
+pair-in-range l =
+    every-pair InRange l
+    (record { year = λ e. absurd (omega arith); time = λ e. absurd (omega arith) })
+    (record { year = λ e. absurd (omega arith); time = λ e. absurd (omega arith) })
+    (record { year = λ e. place-in yearWords l refl; time = λ e. absurd (omega arith) })
+    (record { year = λ e. absurd (omega arith); time = λ e. time-le })
+    (λ n. record { year = λ e. absurd (omega arith); time = λ e. absurd (omega arith) }) where
+      time-le : firstNumber (placeIn clockWords l) (fractionNumber l) ≤ 99
+      time-le =
+          let h : placeIn clockWords l ≤ 3 = place-in clockWords l refl in
+          cond-le (eqb (placeIn clockWords l) 0) (fractionNumber l) (placeIn clockWords l) 99 (fraction-le l) (omega arith)
+
+record Bounded (s : Settings) : Type 0 where
+  size : length (s .numbers) ≡ 5
+  year : yearIn s ≤ 4
+  time : timeIn s ≤ 99
+
+set-le : (ns : List ℕ) (p v q n : ℕ) → p < length ns → (p ≡ q → v ≤ n) → getD ns q 0 ≤ n → getD (set ns p v) q 0 ≤ n
+set-le ns p v q n l h k = go (eqb p q) refl where
+  go : (t : Bool) → eqb p q ≡ t → getD (set ns p v) q 0 ≤ n
+  go true e = let z : p ≡ q = eqb-true p q e in rw (← z, getD-set-same ns p v 0 l) (h z)
+  go false e = rw (getD-set-other ns p q v 0 (λ z. eqb-false p q e (sym z))) k
+
+add-bounded : (s : Settings) (l : List ℕ) → Bounded s → Bounded (addPair s (pairOf l))
+unfolding addPair
+add-bounded s l b = go (s .readable && (ltb 0 (p .setting) && eqb (getD (s .numbers) (p .property) 0) 0)) where
+  p : Pair
+  p = pairOf l
+
+  go : (t : Bool) → Bounded (cond t (settings (set (s .numbers) (p .property) (p .setting))) refusedList)
+  go true =
+      let h : p .property < length (s .numbers) = rw (b .size) (five-properties l) in
+      record {
+        size = length-set (s .numbers) (p .property) (p .setting) ∙ b .size;
+        year = set-le (s .numbers) (p .property) (p .setting) 2 4 h (pair-in-range l .year) (b .year);
+        time = set-le (s .numbers) (p .property) (p .setting) 3 99 h (pair-in-range l .time) (b .time);
+      }
+  go false = record { size = refl; year = omega arith; time = omega arith }
+
+pairs-bounded : (s : Settings) (ws : List (List ℕ)) → Bounded s → Bounded (addPairs s ws)
+unfolding addPairs
+pairs-bounded s [] b = b
+pairs-bounded s (w ∷ ws) b = pairs-bounded (addPair s (pairOf w)) ws (add-bounded s w b)
+
+-- ---- A list that can be read is complete, and its numbers are in range.
+
+record Sound (s : Settings) : Type 0 where
+  all : complete s ≡ true
+  bounds : Bounded s
+
+list-sound : (l : List ℕ) → listOf l .readable ≡ true → Sound (listOf l)
+unfolding listOf completed
+list-sound l = go (complete s) refl where
+  s : Settings
+  s = addPairs (settings noneYet) (splitOn 32 l)
+
+  go : (t : Bool) → complete s ≡ t → cond t s refusedList .readable ≡ true → Sound (cond t s refusedList)
+  go true e h = record { all = e; bounds = pairs-bounded (settings noneYet) (splitOn 32 l) (record { size = refl; year = omega arith; time = omega arith }) }
+  go false e h = absurd (false≢true h)
+
+-- ---- A type that such lists make is well-formed.
+
+-- A first Year from 1 to 4 is named, whatever the others.
+some-year : (y : ℕ) (ys : List ℕ) → 0 < y → y ≤ 4 → someYear (yearsOf (y ∷ ys)) ≡ true
+unfolding yearsOf member
+some-year zero ys h k = absurd (omega arith)
+some-year (suc zero) ys h k = refl
+some-year (suc (suc zero)) ys h k = go (member 1 ys) where
+  go : (a : Bool) →
+      someYear (cond (a || true) (Years.Plain (record { basic = a; proleptic = true })) (Years.Signed (record { negative = member 3 ys; five = member 4 ys }))) ≡ true
+  go true = refl
+  go false = refl
+some-year (suc (suc (suc zero))) ys h k = go (member 1 ys) (member 2 ys) where
+  go : (a b : Bool) →
+      someYear (cond (a || b) (Years.Plain (record { basic = a; proleptic = b })) (Years.Signed (record { negative = true; five = member 4 ys }))) ≡ true
+  go true b = refl
+  go false true = refl
+  go false false = refl
+some-year (suc (suc (suc (suc zero)))) ys h k = go (member 1 ys) (member 2 ys) where
+  go : (a b : Bool) →
+      someYear (cond (a || b) (Years.Plain (record { basic = a; proleptic = b })) (Years.Signed (record { negative = member 3 ys; five = true }))) ≡ true
+  go true b = refl
+  go false true = refl
+  go false false = or-true (member 3 ys)
+some-year (suc (suc (suc (suc (suc n))))) ys h k = absurd (omega arith)
+
+third : (a b c d e : Bool) → a && b && c && d && e ≡ true → c ≡ true
+third true true true d e h = refl
+third true true false d e h = absurd (false≢true h)
+third true false c d e h = absurd (false≢true h)
+third false b c d e h = absurd (false≢true h)
+
+dated-year : (s : Settings) → complete s ≡ true → eqb (basicIn s) 2 ≡ false → 0 < yearIn s
+unfolding complete datedList
+dated-year s c e =
+    let z : presentIf (not (eqb (basicIn s) 2)) (yearIn s) ≡ true = third (not (eqb (basicIn s) 0)) (presentIf (datedList s) (dateIn s)) (presentIf (datedList s) (yearIn s)) (presentIf (timedList s) (timeIn s)) (presentIf (timedList s) (zoneIn s)) c in
+    let y : not (eqb (yearIn s) 0) ≡ true = rw e at z in
+    let n : yearIn s ≡ 0 → ⊥ = eqb-false (yearIn s) 0 (not-true _ y) in
+    omega arith
+
+digits-few : (t z : ℕ) → t ≤ 99 → leb (timeAt t z .digits) 9 ≡ true
+unfolding timeAt
+digits-few t z h = le-leb (t / 10) 9 (omega arith)
+
+list-well-formed : (s : Settings) (ys : List ℕ) → Sound s → wellFormed (listType s (yearIn s ∷ ys)) ≡ true
+unfolding listType
+list-well-formed s ys h = go (eqb (basicIn s) 1) (eqb (basicIn s) 2) refl refl where
+  year : eqb (basicIn s) 2 ≡ false → someYear (yearsOf (yearIn s ∷ ys)) ≡ true
+  year e = some-year (yearIn s) ys (dated-year s (h .all) e) (h .bounds .year)
+
+  few : leb (timeAt (timeIn s) (zoneIn s) .digits) 9 ≡ true
+  few = digits-few (timeIn s) (zoneIn s) (h .bounds .time)
+
+  go : (a b : Bool) → eqb (basicIn s) 1 ≡ a → eqb (basicIn s) 2 ≡ b → wellFormed (listType s (yearIn s ∷ ys)) ≡ true
+  go true b e f =
+      let z : basicIn s ≡ 1 = eqb-true _ _ e in
+      rw (e, year (ne-eqb (basicIn s) 2 (λ x. omega arith)))
+  go false true e f = rw (e, f, few)
+  go false false e f = rw (e, f, year f, few)
+
+-- ---- What is read is well-formed.
+
+abbrev Good : TypeRead → Type 0
+Good (TypeRead.«Type» t) = wellFormed t ≡ true
+Good TypeRead.Unreadable = Unit {0}
+Good TypeRead.NoRow = Unit {0}
+
+good-cond : (k : Bool) (a b : TypeRead) → (k ≡ true → Good a) → Good b → Good (cond k a b)
+good-cond true a b f g = f refl
+good-cond false a b f g = g
+
+-- Limits change no setting.
+same-parts : (limits : Limits) (p : Parts) → wellParts (restricted limits p) ≡ wellParts p
+same-parts limits (Parts.Date d) = refl
+same-parts limits (Parts.Time t) = refl
+same-parts limits (Parts.DateTime d t) = refl
+
+same-well : (limits : Limits) (t : «Type») → wellFormed (carrying limits t) ≡ wellFormed t
+same-well limits («Type».Listed p) = same-parts limits p
+same-well limits («Type».Date w) = refl
+same-well limits («Type».TimeOfDay h) = refl
+same-well limits («Type».DateTime w h) = refl
+
+good-limited : (limits : Limits) (t : «Type») → wellFormed t ≡ true → Good (limitedTo limits t)
+unfolding limitedTo
+good-limited limits t h = good-cond (placed limits (hasDate (partsOf t)) (hasTime (partsOf t))) _ _ (λ e. same-well limits t ∙ h) tt
+
+second : (a b c d e : Bool) → a && (b && c && d) && e ≡ true → b ≡ true
+second true true c d e h = refl
+second true false c d e h = absurd (false≢true h)
+second false b c d e h = absurd (false≢true h)
+
+good-joined : (limits : Limits) (s : Settings) (r : List Settings) → (s .readable ≡ true → Sound s) → Good (joined limits (s ∷ r))
+unfolding joined allOf usable
+good-joined limits s r h =
+    good-cond (leb (length (s ∷ r)) 2 && allOf (usable limits) (s ∷ r) && distinct (s ∷ r)) _ _
+    (λ e.
+    let v : s .readable ≡ true = second (leb (length (s ∷ r)) 2) (s .readable) (placed limits (datedList s) (timedList s)) (allOf (usable limits) r) (distinct (s ∷ r)) e in
+    good-cond (allOf (oneRow s) r) _ _ (λ f. good-limited limits (listType s (map yearIn (s ∷ r))) (list-well-formed s (map yearIn r) (h v))) tt)
+    tt
+
+good-lists : (limits : Limits) (l : List ℕ) → Good (joined limits (listsOf l))
+unfolding listsOf joined
+good-lists limits l = go (splitOn 124 l) where
+  go : (ps : List (List ℕ)) → Good (joined limits (map listOf ps))
+  go [] = tt
+  go (p ∷ ps) = good-joined limits (listOf p) (map listOf ps) (list-sound p)
+
+good : (limits : Limits) (l : List ℕ) → Good (typeOf limits l)
+unfolding typeOf
+good limits l =
+    good-cond (eqList l (bytes "DATE")) _ _ (λ e. good-limited limits DATE refl)
+    (good-cond (eqList l (bytes "TIME-OF-DAY")) _ _ (λ e. good-limited limits TIME-OF-DAY refl)
+    (good-cond (eqList l (bytes "DATE-TIME")) _ _ (λ e. good-limited limits DATE-TIME refl) (good-lists limits l)))
+
+-- Every type that is read is well-formed.
+pub read-well-formed : (limits : Limits) (l : List ℕ) (t : «Type») → typeOf limits l ≡ TypeRead.«Type» t → wellFormed t ≡ true
+read-well-formed limits l t e = subst Good e (good limits l)
