@@ -1,7 +1,7 @@
 ghost use mathlib.Core.Path.{_≡_};
 ghost use Prim.Native.Nat.{_<_};
 ghost use lib.ListN.{length};
-ghost use Rattle.lists.specs.Words.{Place, clockWords, firstNumber, fractionNumber, pairOf, placeIn};
+ghost use Rattle.lists.specs.Words.{Place, clockWords, firstNumber, firstOf, fractionNumber, pair, pairOf, placeIn};
 use octets::same;
 
 // The places of the properties.
@@ -92,37 +92,41 @@ fn time_word(s: &[u8]) -> u32
     fraction(s)
 }
 
-// The pair that a text is.
+// A property with the number of its setting, or the pair of no setting where that is 0.
+fn pair_or_none(property: usize, setting: u32) -> Pair
+    ensures { λ r. ⌜ r ≡ firstOf (pair property setting) (pair 4 0) ⌝ }
+{
+    if setting == 0 {
+        return Pair {
+            property: ZONE,
+            setting: 0,
+        };
+    }
+    Pair { property, setting }
+}
+
+// The pair that a text is. The first octet of a text tells the only property whose words it can be one of.
 pub fn read_pair(s: &[u8]) -> Pair
     ensures { λ r. ⌜ r ≡ pairOf (now (s .entry)) ⌝ }
 {
-    let basic = place_in(&BASIC_WORDS, s);
-    if basic != 0 {
+    if s.len() == 0 {
         return Pair {
-            property: BASIC,
-            setting: basic,
+            property: ZONE,
+            setting: 0,
         };
     }
-    let date = place_in(&DATE_WORDS, s);
-    if date != 0 {
-        return Pair {
-            property: DATE,
-            setting: date,
-        };
+    let first = s[0];
+    if first == b'B' {
+        return pair_or_none(BASIC, place_in(&BASIC_WORDS, s));
     }
-    let year = place_in(&YEAR_WORDS, s);
-    if year != 0 {
-        return Pair {
-            property: YEAR,
-            setting: year,
-        };
+    if first == b'D' {
+        return pair_or_none(DATE, place_in(&DATE_WORDS, s));
     }
-    let time = time_word(s);
-    if time != 0 {
-        return Pair {
-            property: TIME,
-            setting: time,
-        };
+    if first == b'Y' {
+        return pair_or_none(YEAR, place_in(&YEAR_WORDS, s));
+    }
+    if first == b'T' {
+        return pair_or_none(TIME, time_word(s));
     }
     Pair {
         property: ZONE,

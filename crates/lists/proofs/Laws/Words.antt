@@ -1,16 +1,19 @@
 -- The place of a text among words.
 use mathlib.Core.Path.{_≡_, refl, sym, ap, _∙_}
-use mathlib.Core.Bool.{true, false}
+use mathlib.Core.Bool.{Bool, true, false, _&&_, cond}
 use mathlib.Core.List.{List, [], _∷_, _++_}
-use Prim.Native.Nat.{ℕ, suc, _+_, _-_, _<_, _≤_}
+use Prim.Native.Nat.{ℕ, zero, suc, _+_, _-_, _<_, _≤_}
 use Prim.Native.String.{String}
 use native.Mathlib.Numerals.{add-one}
 use native.Mathlib.Omega.{arith}
 use lib.ListN.{length, getD, take, drop, drop-of-length-le, length-append, length-drop}
-use lib.Seq.{take-at, drop-at, drop-cons, drop-drop}
+use lib.Dec.{eqb, leb}
+use lib.Seq.{take-at, drop-at, drop-cons, drop-drop, getD-take}
+use borrow.Author.Tests.{eqb-true, eqb-false}
 use Rattle.octets.specs.Octets.{bytes, eqList}
-use Rattle.octets.proofs.Laws.Cases.{cond-le}
-use Rattle.lists.specs.Words.{counted, placeFrom, placeIn}
+use Rattle.octets.proofs.Laws.Cases.{by-test, both, cond-le}
+use Rattle.octets.proofs.Laws.Octets.{equal}
+use Rattle.lists.specs.Words.{basicWords, clockWords, counted, dateWords, firstNumber, firstOf, fractionNumber, fractionWords, pair, pairOf, placeFrom, placeIn, yearWords, zoneWords}
 
 -- What a table holds from a place on: words that are counted from k, among which the text has the place n.
 pub record Left (t l : List ℕ) (at k n : ℕ) : Type 0 where
@@ -85,3 +88,63 @@ place-le k (w ∷ ws) l =
 -- A place is at most the number of words.
 pub place-in : (ws : List String) (l : List ℕ) {n : ℕ} → n ≡ placeIn ws l → n ≤ length ws
 place-in ws l e = rw e (omega (arith, place-le 0 ws l))
+
+-- Whether all words begin with an octet.
+abbrev all-begin : ℕ → List String → Bool
+all-begin b [] = true
+all-begin b (w ∷ ws) = eqb (getD (bytes w) 0 0) b && all-begin b ws
+
+-- A text that begins with another octet is none of such words.
+other-words : (b k : ℕ) (ws : List String) (l : List ℕ) → all-begin b ws ≡ true → (getD l 0 0 ≡ b → ⊥) → placeFrom k ws l ≡ 0
+unfolding placeFrom
+other-words b k [] l t n = refl
+other-words b k (w ∷ ws) l t n = by-test (eqList l (bytes w)) (λ e. absurd (n (begins e))) (λ e. rw e (other-words b (suc k) ws l (p .1) n))
+  where
+    p : (eqb (getD (bytes w) 0 0) b ≡ true) × (all-begin b ws ≡ true)
+    p = both _ _ t
+
+    begins : eqList l (bytes w) ≡ true → getD l 0 0 ≡ b
+    begins e = ap (λ (m : List ℕ). getD m 0 0) (equal l (bytes w) e) ∙ eqb-true _ _ (p .0)
+
+-- The first octet of a text without its end is the text's own, or there is none.
+first-taken : (n b : ℕ) (l : List ℕ) → getD (take n l) 0 0 ≡ suc b → getD l 0 0 ≡ suc b
+first-taken zero b l e = absurd (omega arith)
+first-taken (suc n) b l e = sym (getD-take (suc n) l 0 0 (omega arith)) ∙ e
+
+-- A text that does not begin with T is no Time setting.
+no-time : (l : List ℕ) → (getD l 0 0 ≡ 84 → ⊥) → firstNumber (placeIn clockWords l) (fractionNumber l) ≡ 0
+unfolding fractionNumber
+no-time l n =
+    rw (
+      other-words 84 1 clockWords l refl n,
+      other-words 84 1 fractionWords (take (length l - 1) l) refl (λ e. n (first-taken (length l - 1) 83 l e)),
+    )
+    (by-test (leb 49 (getD l (length l - 1) 0) && leb (getD l (length l - 1) 0) 57) (λ e. rw e) (λ e. rw e))
+
+-- A number where the text begins with an octet, otherwise 0.
+abbrev where-first : List ℕ → ℕ → ℕ → ℕ
+where-first l b n = cond (eqb (getD l 0 0) b) n 0
+
+only-first : (l : List ℕ) (b n : ℕ) → ((getD l 0 0 ≡ b → ⊥) → n ≡ 0) → where-first l b n ≡ n
+only-first l b n h = by-test (eqb (getD l 0 0) b) (λ e. rw e) (λ e. rw e (sym (h (eqb-false _ _ e))))
+
+-- A place among the words of Local-or-UTC is one of a text that begins with L.
+pub zone-first : (l : List ℕ) → where-first l 76 (placeIn zoneWords l) ≡ placeIn zoneWords l
+zone-first l = only-first l 76 _ (other-words 76 1 zoneWords l refl)
+
+-- The first octet of a text tells the only table that it can have a place in.
+pub only-table : (l : List ℕ) → pairOf l ≡
+    firstOf (pair 0 (where-first l 66 (placeIn basicWords l)))
+    (firstOf (pair 1 (where-first l 68 (placeIn dateWords l)))
+    (firstOf (pair 2 (where-first l 89 (placeIn yearWords l)))
+    (firstOf (pair 3 (where-first l 84 (firstNumber (placeIn clockWords l) (fractionNumber l))))
+    (pair 4 (where-first l 76 (placeIn zoneWords l))))))
+unfolding pairOf
+only-table l =
+    rw (
+      only-first l 66 _ (other-words 66 1 basicWords l refl),
+      only-first l 68 _ (other-words 68 1 dateWords l refl),
+      only-first l 89 _ (other-words 89 1 yearWords l refl),
+      only-first l 84 _ (no-time l),
+      zone-first l,
+    )
