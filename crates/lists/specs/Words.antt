@@ -18,14 +18,22 @@ placeFrom k (w ∷ ws) l = cond (eqList l (bytes w)) k (placeFrom (suc k) ws l)
 abbrev pub placeIn : List String → List ℕ → ℕ
 placeIn = placeFrom 1
 
--- The words of a table: the octets of each after their number.
+-- The octets of words, those of each after their number.
 abbrev pub counted : List String → List ℕ
 counted [] = []
 counted (w ∷ ws) = length (bytes w) ∷ (bytes w ++ counted ws)
 
--- The place of a text in a table is that among the table's words.
-abbrev pub Place : List ℕ → List ℕ → ℕ → Type 0
-Place t l n = (ws : List String) → t ≡ counted ws → n ≡ placeIn ws l
+-- A table has these words, so many.
+abbrev pub Has : List ℕ → ℕ → List String → Type 0
+Has t n ws = (t ≡ counted ws) × (length ws ≡ n)
+
+-- A table has so many words, ..
+abbrev pub Table : List ℕ → ℕ → Type 0
+Table t n = (ws : List String) × Has t n ws
+
+-- .. and the place of a text in it is that among its words.
+abbrev pub Place : List ℕ → ℕ → List ℕ → ℕ → Type 0
+Place t n l k = (ws : List String) → Has t n ws → k ≡ placeIn ws l
 
 -- "`Basic`: Date, Time, Date-Time."
 abbrev pub basicWords : List String

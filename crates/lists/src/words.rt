@@ -1,7 +1,5 @@
 ghost use mathlib.Core.Path.{_≡_};
-ghost use Prim.Native.Nat.{_<_};
-ghost use lib.ListN.{length};
-ghost use Rattle.lists.specs.Words.{Place, clockWords, firstNumber, firstOf, fractionNumber, pair, pairOf, placeIn};
+ghost use Rattle.lists.specs.Words.{Place, Table, clockWords, firstNumber, firstOf, fractionNumber, pair, pairOf, placeIn};
 use octets::same;
 
 // The places of the properties.
@@ -35,24 +33,21 @@ pub struct Pair {
     pub setting: u32,
 }
 
-// The place of a text among the words of a table, counted from 1, or 0 where it is none of them. In a table each word
-// stands after its length.
-fn place_in(table: &[u8], s: &[u8]) -> u32
-    requires { ⌜ length (now table) < 256 ⌝ }
-    ensures { λ r. ⌜ Place (now (table .entry)) (now (s .entry)) r ⌝ }
+// The place of a text among the words of a table, counted from 1, or 0 where it is none of them. The table has so many
+// words, each after its length.
+fn place_in(table: &[u8], words: u32, s: &[u8]) -> u32
+    requires { ⌜ Table (now table) words ⌝ }
+    ensures { λ r. ⌜ Place (now (table .entry)) words (now (s .entry)) r ⌝ }
 {
-    let mut place = 1;
+    let mut place = 0;
     let mut at = 0;
-    while at < table.len() {
+    while place < words {
         let word = at + 1;
         let end = word + table[at] as usize;
-        if table.len() < end {
-            return 0;
-        }
+        place += 1;
         if same(s, &table[word..end]) {
             return place;
         }
-        place += 1;
         at = end;
     }
     0
@@ -74,7 +69,7 @@ fn fraction(s: &[u8]) -> u32
     if b'9' < digit {
         return 0;
     }
-    let word = place_in(&FRACTION_WORDS, &s[..last]);
+    let word = place_in(&FRACTION_WORDS, 3, &s[..last]);
     if word == 0 {
         return 0;
     }
@@ -85,7 +80,7 @@ fn fraction(s: &[u8]) -> u32
 fn time_word(s: &[u8]) -> u32
     ensures { λ r. ⌜ r ≡ firstNumber (placeIn clockWords (now (s .entry))) (fractionNumber (now (s .entry))) ⌝ }
 {
-    let clock = place_in(&CLOCK_WORDS, s);
+    let clock = place_in(&CLOCK_WORDS, 3, s);
     if clock != 0 {
         return clock;
     }
@@ -117,19 +112,19 @@ pub fn read_pair(s: &[u8]) -> Pair
     }
     let first = s[0];
     if first == b'B' {
-        return pair_or_none(BASIC, place_in(&BASIC_WORDS, s));
+        return pair_or_none(BASIC, place_in(&BASIC_WORDS, 3, s));
     }
     if first == b'D' {
-        return pair_or_none(DATE, place_in(&DATE_WORDS, s));
+        return pair_or_none(DATE, place_in(&DATE_WORDS, 6, s));
     }
     if first == b'Y' {
-        return pair_or_none(YEAR, place_in(&YEAR_WORDS, s));
+        return pair_or_none(YEAR, place_in(&YEAR_WORDS, 4, s));
     }
     if first == b'T' {
         return pair_or_none(TIME, time_word(s));
     }
     Pair {
         property: ZONE,
-        setting: place_in(&ZONE_WORDS, s),
+        setting: place_in(&ZONE_WORDS, 3, s),
     }
 }

@@ -6,20 +6,21 @@ use Prim.Native.Nat.{ℕ, zero, suc, _+_, _-_, _<_, _≤_}
 use Prim.Native.String.{String}
 use native.Mathlib.Numerals.{add-one}
 use native.Mathlib.Omega.{arith}
-use lib.ListN.{length, getD, take, drop, drop-of-length-le, length-append, length-drop}
-use lib.Dec.{eqb, leb}
+use lib.ListN.{length, getD, take, drop, length-append, length-drop}
+use lib.Dec.{eqb}
 use lib.Seq.{take-at, drop-at, drop-cons, drop-drop, getD-take}
 use borrow.Author.Tests.{eqb-true, eqb-false}
 use Rattle.octets.specs.Octets.{bytes, eqList}
 use Rattle.octets.proofs.Laws.Cases.{by-test, both, cond-le}
 use Rattle.octets.proofs.Laws.Octets.{equal}
-use Rattle.lists.specs.Words.{basicWords, clockWords, counted, dateWords, firstNumber, firstOf, fractionNumber, fractionWords, pair, pairOf, placeFrom, placeIn, yearWords, zoneWords}
+use Rattle.lists.specs.Words.{Has, Table, basicWords, clockWords, counted, dateWords, firstNumber, firstOf, fractionNumber, fractionWords, pair, pairOf, placeFrom, placeIn, yearWords, zoneWords}
 
--- What a table holds from a place on: words that are counted from k, among which the text has the place n.
-pub record Left (t l : List ℕ) (at k n : ℕ) : Type 0 where
+-- What a table of m words holds from a place on, behind k of them: words among which the text has the place n.
+pub record Left (t l : List ℕ) (m at k n : ℕ) : Type 0 where
   pub words : List String
   pub rest : drop at t ≡ counted words
-  pub place : n ≡ placeFrom k words l
+  pub count : k + length words ≡ m
+  pub place : n ≡ placeFrom (suc k) words l
 
 -- The first of these words and the others.
 record First (t : List ℕ) (at : ℕ) (ws : List String) : Type 0 where
@@ -30,10 +31,11 @@ record First (t : List ℕ) (at : ℕ) (ws : List String) : Type 0 where
   after : drop (at + 1 + getD t at 0) t ≡ counted others
   within : at + 1 + getD t at 0 ≤ length t
 
-first : (t : List ℕ) (at : ℕ) (ws : List String) → drop at t ≡ counted ws → at < length t → First t at ws
-first t at [] e h = absurd (omega (arith, simp length-drop at (ap length e)))
+first : (t : List ℕ) (at : ℕ) (ws : List String) → drop at t ≡ counted ws → 0 < length ws → First t at ws
+first t at [] e h = absurd (omega arith)
 first t at (w ∷ ws) e h =
-    let d : getD t at 0 ∷ drop (suc at) t ≡ length (bytes w) ∷ (bytes w ++ counted ws) = sym (drop-cons t at 0 h) ∙ e in
+    let i : at < length t = omega (arith, simp length-drop at (ap length e)) in
+    let d : getD t at 0 ∷ drop (suc at) t ≡ length (bytes w) ∷ (bytes w ++ counted ws) = sym (drop-cons t at 0 i) ∙ e in
     let n : getD t at 0 ≡ length (bytes w) = cc in
     let r : drop (at + 1) t ≡ bytes w ++ counted ws = rw add-one (cc) in
     let m : at + 1 + getD t at 0 - (at + 1) ≡ getD t at 0 = omega arith in
@@ -46,37 +48,48 @@ first t at (w ∷ ws) e h =
       within = omega (arith, simp (length-drop, length-append) at (ap length r));
     }
 
-module _ {t l : List ℕ} {at k n : ℕ} (w : Left t l at k n) where
-  -- At the table's end the text is none of its words, ..
-  pub left-none : length t ≤ at → 0 ≡ n
+-- Before the first word all are left.
+pub left-all : {t l : List ℕ} {m : ℕ} (ws : List String) → Has t m ws → Left t l m 0 0 (placeIn ws l)
+left-all ws e = record { words = ws; rest = e .0; count = omega (arith, e .1); place = refl }
+
+module _ {t l : List ℕ} {m at k n : ℕ} (w : Left t l m at k n) where
+  -- Behind the last word the text is none of them, ..
+  pub left-none : m ≤ k → 0 ≡ n
   unfolding placeFrom
-  left-none h = none-of (w .words) (sym (w .rest) ∙ drop-of-length-le t h) (w .place)
+  left-none h = none-of (w .words) (omega (arith, w .count)) (w .place)
     where
-      none-of : (ws : List String) → counted ws ≡ [] → n ≡ placeFrom k ws l → 0 ≡ n
+      none-of : (ws : List String) → length ws ≡ 0 → n ≡ placeFrom (suc k) ws l → 0 ≡ n
       none-of [] e p = sym p
-      none-of (w ∷ ws) e p = absurd (omega (arith, ap length e))
+      none-of (w ∷ ws) e p = absurd (omega arith)
 
-  module _ (h : at < length t) where
-    -- .. before it no word reaches beyond it, ..
-    pub left-within : at + 1 + getD t at 0 ≤ length t
-    left-within = first t at (w .words) (w .rest) h .within
+  module _ (h : k < m) where
+    next : First t at (w .words)
+    next = first t at (w .words) (w .rest) (omega (arith, w .count))
 
-    -- .. a text that is the next word has the place counted to, ..
-    pub left-hit : eqList l (take (at + 1 + getD t at 0 - (at + 1)) (drop (at + 1) t)) ≡ true → k ≡ n
+    -- .. before it a text that is the next word has this word's place, ..
+    pub left-hit : eqList l (take (at + 1 + getD t at 0 - (at + 1)) (drop (at + 1) t)) ≡ true → k + 1 ≡ n
     unfolding placeFrom
     left-hit e =
-        let f : First t at (w .words) = first t at (w .words) (w .rest) h in
-        let q : eqList l (bytes (f .word)) ≡ true = rw (f .octets) at e in
-        sym (w .place ∙ rw (f .split, q))
+        let q : eqList l (bytes (next .word)) ≡ true = rw (next .octets) at e in
+        add-one k ∙ sym (w .place ∙ rw (next .split, q))
 
     -- .. and any other is looked for among the words after it.
-    pub left-miss : eqList l (take (at + 1 + getD t at 0 - (at + 1)) (drop (at + 1) t)) ≡ false → Left t l (at + 1 + getD t at 0) (k + 1) n
+    pub left-miss : eqList l (take (at + 1 + getD t at 0 - (at + 1)) (drop (at + 1) t)) ≡ false → Left t l m (at + 1 + getD t at 0) (k + 1) n
     unfolding placeFrom
     left-miss e =
-        let f : First t at (w .words) = first t at (w .words) (w .rest) h in
-        let q : eqList l (bytes (f .word)) ≡ false = rw (f .octets) at e in
-        let m : placeFrom k (f .word ∷ f .others) l ≡ placeFrom (k + 1) (f .others) l = rw (q, add-one) in
-        record { words = f .others; rest = f .after; place = w .place ∙ ap (λ (ws : List String). placeFrom k ws l) (f .split) ∙ m }
+        let q : eqList l (bytes (next .word)) ≡ false = rw (next .octets) at e in
+        let p : placeFrom (suc k) (next .word ∷ next .others) l ≡ placeFrom (suc (k + 1)) (next .others) l = rw (q, add-one) in
+        record {
+          words = next .others;
+          rest = next .after;
+          count = omega (arith, w .count, ap (λ (ws : List String). length ws) (next .split));
+          place = w .place ∙ ap (λ (ws : List String). placeFrom (suc k) ws l) (next .split) ∙ p;
+        }
+
+-- The next word stands within the table.
+pub next-within : {t l : List ℕ} {m at k : ℕ} → Table t m → ((ws : List String) → Has t m ws → Left t l m at k (placeIn ws l)) → k < m →
+    at + 1 + getD t at 0 ≤ length t
+next-within p w h = next (w (p .0) (p .1)) h .within
 
 -- No place lies behind the words.
 place-le : (k : ℕ) (ws : List String) (l : List ℕ) → placeFrom (suc k) ws l ≤ k + length ws
@@ -111,6 +124,10 @@ first-taken : (n b : ℕ) (l : List ℕ) → getD (take n l) 0 0 ≡ suc b → g
 first-taken zero b l e = absurd (omega arith)
 first-taken (suc n) b l e = sym (getD-take (suc n) l 0 0 (omega arith)) ∙ e
 
+either : (t : Bool) (n : ℕ) → cond t n n ≡ n
+either true n = refl
+either false n = refl
+
 -- A text that does not begin with T is no Time setting.
 no-time : (l : List ℕ) → (getD l 0 0 ≡ 84 → ⊥) → firstNumber (placeIn clockWords l) (fractionNumber l) ≡ 0
 unfolding fractionNumber
@@ -118,8 +135,8 @@ no-time l n =
     rw (
       other-words 84 1 clockWords l refl n,
       other-words 84 1 fractionWords (take (length l - 1) l) refl (λ e. n (first-taken (length l - 1) 83 l e)),
+      either,
     )
-    (by-test (leb 49 (getD l (length l - 1) 0) && leb (getD l (length l - 1) 0) 57) (λ e. rw e) (λ e. rw e))
 
 -- A number where the text begins with an octet, otherwise 0.
 abbrev where-first : List ℕ → ℕ → ℕ → ℕ

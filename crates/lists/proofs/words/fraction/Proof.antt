@@ -36,7 +36,7 @@ slice-aggregate-place-in-2 : tie.Need-slice-aggregate-place-in-2
 slice-aggregate-place-in-2 c = sym (length-take-le _ _ (omega arith))
 
 place-in-requires : tie.Need-place-in-requires
-place-in-requires c κs = search needs
+place-in-requires c κs = (fractionWords, (refl, refl))
 
 returns-4 : tie.Need-returns-4
 unfolding fractionNumber
@@ -44,7 +44,7 @@ returns-4 c =
     rw (
       le-leb _ _ (c .before .before .before .before .before .if2 .left),
       le-leb _ _ (c .before .before .before .before .if3 .left),
-      ← c .before .place-in .ensures fractionWords refl,
+      ← c .before .place-in .ensures fractionWords (refl, refl),
       eq-eqb _ _ (c .if4 .taken),
     )
 
@@ -58,7 +58,7 @@ mul-result : tie.Need-mul-result
 mul-result c = search needs
 
 add-result : tie.Need-add-result
-add-result c = omega (arith, place-in fractionWords _ (c .before .place-in .ensures fractionWords refl))
+add-result c = omega (arith, place-in fractionWords _ (c .before .place-in .ensures fractionWords (refl, refl)))
 
 returns-5 : tie.Need-returns-5
 unfolding fractionNumber
@@ -66,7 +66,7 @@ returns-5 c =
     rw (
       le-leb _ _ (c .before .before .before .before .before .if2 .left),
       le-leb _ _ (c .before .before .before .before .if3 .left),
-      ← c .before .place-in .ensures fractionWords refl,
+      ← c .before .place-in .ensures fractionWords (refl, refl),
       ne-eqb _ _ (c .if4 .left),
     )
 

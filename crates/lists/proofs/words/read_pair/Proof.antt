@@ -19,37 +19,37 @@ slice-aggregate-place-in : tie.Need-slice-aggregate-place-in
 slice-aggregate-place-in c = search needs
 
 place-in-requires : tie.Need-place-in-requires
-place-in-requires c κs = search needs
+place-in-requires c κs = (basicWords, (refl, refl))
 
 pair-or-none-requires : tie.Need-pair-or-none-requires
 pair-or-none-requires c κs = search needs
 
 returns-2 : tie.Need-returns-2
-returns-2 c = c .pair-or-none .ensures ∙ rw (c .before .place-in .ensures basicWords refl, only-table, c .before .before .before .if2 .taken)
+returns-2 c = c .pair-or-none .ensures ∙ rw (c .before .place-in .ensures basicWords (refl, refl), only-table, c .before .before .before .if2 .taken)
 
 slice-aggregate-place-in-2 : tie.Need-slice-aggregate-place-in-2
 slice-aggregate-place-in-2 c = search needs
 
 place-in-requires-2 : tie.Need-place-in-requires-2
-place-in-requires-2 c κs = search needs
+place-in-requires-2 c κs = (dateWords, (refl, refl))
 
 pair-or-none-requires-2 : tie.Need-pair-or-none-requires-2
 pair-or-none-requires-2 c κs = search needs
 
 returns-3 : tie.Need-returns-3
-returns-3 c = c .pair-or-none2 .ensures ∙ rw (c .before .place-in2 .ensures dateWords refl, only-table, c .before .before .before .if3 .taken)
+returns-3 c = c .pair-or-none2 .ensures ∙ rw (c .before .place-in2 .ensures dateWords (refl, refl), only-table, c .before .before .before .if3 .taken)
 
 slice-aggregate-place-in-3 : tie.Need-slice-aggregate-place-in-3
 slice-aggregate-place-in-3 c = search needs
 
 place-in-requires-3 : tie.Need-place-in-requires-3
-place-in-requires-3 c κs = search needs
+place-in-requires-3 c κs = (yearWords, (refl, refl))
 
 pair-or-none-requires-3 : tie.Need-pair-or-none-requires-3
 pair-or-none-requires-3 c κs = search needs
 
 returns-4 : tie.Need-returns-4
-returns-4 c = c .pair-or-none3 .ensures ∙ rw (c .before .place-in3 .ensures yearWords refl, only-table, c .before .before .before .if4 .taken)
+returns-4 c = c .pair-or-none3 .ensures ∙ rw (c .before .place-in3 .ensures yearWords (refl, refl), only-table, c .before .before .before .if4 .taken)
 
 time-word-requires : tie.Need-time-word-requires
 time-word-requires c κs = search needs
@@ -64,12 +64,12 @@ slice-aggregate-place-in-4 : tie.Need-slice-aggregate-place-in-4
 slice-aggregate-place-in-4 c = search needs
 
 place-in-requires-4 : tie.Need-place-in-requires-4
-place-in-requires-4 c κs = search needs
+place-in-requires-4 c κs = (zoneWords, (refl, refl))
 
 returns-6 : tie.Need-returns-6
 returns-6 c =
     rw (
-      c .place-in4 .ensures zoneWords refl,
+      c .place-in4 .ensures zoneWords (refl, refl),
       only-table,
       ne-eqb _ _ (c .before .before .before .before .before .if2 .left),
       ne-eqb _ _ (c .before .before .before .before .if3 .left),
