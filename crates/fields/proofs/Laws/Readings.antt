@@ -9,7 +9,8 @@ use borrow.Author.Tests.{le-leb, lt-ltb, leb-true, ltb-true, eqb-true, eq-eqb}
 use Rattle.fields.specs.Bits.{BitString, bitsOf}
 use Rattle.fields.specs.Integers.{within, fewest, twos}
 use Rattle.fields.specs.Fields.{Field, Ranged, Free, width, fieldBits, layout}
-use Rattle.fields.specs.Readings.{Found, found, nothing, onward, Reading, give, ranged, free, refuse, _>>=_, aRanged, aFree, readRanged, readFree, run, over}
+use Rattle.fields.specs.Readings.{Found, found, nothing, onward, readRanged, readFree}
+use Rattle.fields.specs.Readings.{Reading, give, ranged, free, refuse, _>>=_, aRanged, aFree, run, over}
 use Rattle.fields.specs.Spelled.{SpelledField, Range, Integer, spelledFields, wellSpelled, spelledBits}
 use Rattle.fields.proofs.Laws.Cases.{by-test, both}
 use Rattle.fields.proofs.Laws.Found.{nothing-not, found-value, found-rest, found-more}
