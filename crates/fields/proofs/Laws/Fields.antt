@@ -181,6 +181,7 @@ read-free-only s z t = first (readBits 8 s) refl
     low n u q false l e = nothing-not e
 
     first : (g : Found Bool ℕ) → readBits 8 s ≡ g
-        → onward g (λ n u. cond (leb 1 n) (cond (leb n 4) (onward (readBits (8 * n) u) (λ k u. found (fromTwos n k) u)) nothing) nothing) ≡ found z t → InOctets s z t
+        → onward g (λ n u. cond (leb 1 n) (cond (leb n 4) (onward (readBits (8 * n) u) (λ k u. found (fromTwos n k) u)) nothing) nothing) ≡ found z t
+        → InOctets s z t
     first nothing q e = nothing-not e
     first (found n u) q e = low n u q (leb 1 n) refl e
