@@ -111,7 +111,8 @@ module _ (form : Form) where
       ap (contentsOf Name.TimeOfDay) (q .3 ∙ sym (append-nil _)) ∙ fields-kept colon 2 (q .0) (q .1) (q .2) Name.TimeOfDay [] refl ∙ append-nil _ in
       rw (k, fields-only 2 (q .0) (q .1) (q .2), fields-back colon 2 (q .0) (q .1) (q .2), q .3)
 
-  date-time-contents : (w : Window) (d : Date) (e : Time) → dateForm d ≡ DateForm.YMD → timeForm e ≡ hmsLocal .form → admitsDate (withWindow w ymdBasic) d ≡ true
+  date-time-contents : (w : Window) (d : Date) (e : Time) → dateForm d ≡ DateForm.YMD → timeForm e ≡ hmsLocal .form
+      → admitsDate (withWindow w ymdBasic) d ≡ true
       → readContents Name.DateTime form (contentsOf Name.DateTime (putDate d ++ letterT ∷ putTime canonical e)) ≡ ofText (readOf form (putDate d ++ letterT ∷ putTime canonical e))
   unfolding contentsOf without allDigits
   date-time-contents w d e f h a =
@@ -150,7 +151,8 @@ own-contents form (Ty.DateTime w h) (Value.Date d) f a = absurd (let z : _≡_ {
 own-contents form (Ty.DateTime w h) (Value.Time e) f a = absurd (let z : _≡_ {A = ℕ} 0 1 = cc in omega arith)
 
 -- The element of a value that a type holds gives at every form, also at another than the type's, what the canonical text gives.
-pub element-gives : (t : Ty) (v : Value) → Holds der t v → (form : Form) → readElement (nameOf t) form (elementOf (nameOf t) v) ≡ ofText (readOf form (textOf v))
+pub element-gives : (t : Ty) (v : Value) → Holds der t v → (form : Form)
+    → readElement (nameOf t) form (elementOf (nameOf t) v) ≡ ofText (readOf form (textOf v))
 unfolding elementOf
 element-gives t v h form =
     let i = in-type t v (h .inside) in

@@ -47,12 +47,15 @@ printed k =
 -- .. and what is written is its element.
 written : (k : tie.After-write-element)
     → (k .write-element .result .length .count ≤ 55)
-    × (take (k .write-element .result .length .count) (k .write-element .last .1 .1 .0) ≡ elementOf (nameOf (k .before .before .before .before .before .before .before .before .before .args .t)) (k .before .before .before .before .before .before .before .before .before .args .value))
+    × (take (k .write-element .result .length .count) (k .write-element .last .1 .1 .0)
+    ≡ elementOf (nameOf (k .before .before .before .before .before .before .before .before .before .args .t))
+    (k .before .before .before .before .before .before .before .before .before .args .value))
 written k =
     let text = k .before .before .before .before in
     let start = text .before .before .before .before .before in
     rw (← text .before .before .name .ensures)
-    (own-element (text .before .before .name .result) (start .args .value) _ _ _ _ (start .pre) (printed text) (omega arith) (k .write-element .ensures .0) (k .write-element .ensures .1))
+    (own-element (text .before .before .name .result) (start .args .value) _ _ _ _ (start .pre) (printed text) (omega arith)
+    (k .write-element .ensures .0) (k .write-element .ensures .1))
 
 array-share-prefix-own : tie.Need-array-share-prefix-own
 array-share-prefix-own c =
@@ -75,7 +78,9 @@ refused-requires c κs = search needs
 
 returns : tie.Need-returns
 unfolding compared outcomeOf roomOf
-returns c = rw (← written (c .before .before .before .before .before) .1, sym (c .before .before .same .ensures) ∙ not-true _ (c .before .if1 .taken)) (c .refused .ensures, refl)
+returns c =
+    rw (← written (c .before .before .before .before .before) .1, sym (c .before .before .same .ensures) ∙ not-true _ (c .before .if1 .taken))
+    (c .refused .ensures, refl)
 
 array-share-prefix-text-2 : tie.Need-array-share-prefix-text-2
 array-share-prefix-text-2 c = let w : length (c .before .before .before .before .before .before .before .before .text-into .last .1 .0) ≡ textCapacity = search needs in omega (arith, text-short _ _ (omega arith) (c .before .before .before .before .before .before .before .before .text-into .ensures .0))
@@ -93,7 +98,8 @@ returns-2 : tie.Need-returns-2
 unfolding compared
 returns-2 c =
     let test = c .before .before .before .before .before in
-    rw (← written (c .before .before .before .before .before .before .before .before .before) .1, sym (test .before .same .ensures) ∙ not-false _ (test .if1 .left), ← printed (c .before .before .before .before .before .before .before .before .before .before .before .before .before))
+    let own = test .before .before .before .before in
+    rw (← written own .1, sym (test .before .same .ensures) ∙ not-false _ (test .if1 .left), ← printed (own .before .before .before .before))
     (c .before .before .deliver .ensures)
 
 pub compare-spec : {M : Type 1} → statement M
