@@ -35,7 +35,7 @@ LISTS = ROOT / "crates/lists/proofs/Laws/Checked.antt"
 LIST = re.compile(r'^ +list "([^"]*)" (\d+) (\d+) (\d+) (\d+) (\d+) ∷', re.M)
 OCTETS = re.compile(r'^ +octets "([^"]*)" \(((?:\d+ ∷ )+)\[\]\) refl ∷', re.M)
 
-TYPES = ROOT / "crates/settings/proofs/Laws/CheckedTypes.antt"
+TYPES = ROOT / "crates/type_texts/proofs/Laws/CheckedTypes.antt"
 TYPE = re.compile(r'^ +text "([^"]*)" (\w+) (\d) ∷', re.M)
 PAIR = re.compile(r'^ +pair "([^"]*)" "([^"]*)" (true|false) ∷', re.M)
 LIMITED = re.compile(r'^ +limited "([^"]*)" (\w+) "([^"]*)" (\w+) (true|false) ∷', re.M)
@@ -54,11 +54,11 @@ TEXTS = ROOT / "crates/exchanges/proofs/Laws/CheckedTexts.antt"
 TEXT = re.compile(rf'^ +row "([^"]*)" {QUOTED} (\d) "([^"]*)" ∷', re.M)
 UNDER = re.compile(r'^ +under "([^"]*)" (\w+) "([^"]*)" (\d) "([^"]*)" ∷', re.M)
 
-SETTINGS = ROOT / "crates/values/proofs/Laws/Holding.antt"
+SETTINGS = ROOT / "crates/held_values/proofs/Laws/Holding.antt"
 SETTING = re.compile(r"^ +year (\w+) \((\w+ \d+)\) (true|false) ∷", re.M)
 SETTING_NAMES = {"basic": "Basic", "proleptic": "Proleptic", "negative": "Negative", "five": "L5"}
 
-TIMES = ROOT / "crates/values/proofs/Laws/CheckedExistence.antt"
+TIMES = ROOT / "crates/held_values/proofs/Laws/CheckedExistence.antt"
 LOCAL = re.compile(r"^ +time \(local \(Clock\.\w+((?: \d+)+)\) (\d+) (\d+)\) (true|false) ∷", re.M)
 ZONED = re.compile(r"^ +time \((ahead|behind) (\d+) (\d+)\) (true|false) ∷", re.M)
 UTC = re.compile(r"^ +time utc (true|false) ∷", re.M)
@@ -89,7 +89,7 @@ YEAR_SETTINGS = {
     "negative": frozenset({"Negative"}), "five": frozenset({"L5"}), "signed": YEAR_ROWS["AnyYear"],
 }
 
-ELEMENTS = ROOT / "crates/der/proofs/Laws/Checked.antt"
+ELEMENTS = ROOT / "crates/der_elements/proofs/Laws/Checked.antt"
 DATE_ELEMENT = re.compile(rf'^ +(date|looseDate) Name\.(\w+) {A_DATE} "(\w+)" ∷', re.M)
 TIME_ELEMENT = re.compile(rf'^ +(time|looseTime) Name\.(\w+) {A_TIME} "(\w+)" ∷', re.M)
 BOTH_ELEMENT = re.compile(rf'^ +(both|looseBoth) Name\.(\w+) {A_DATE} {A_TIME} "(\w+)" ∷', re.M)

@@ -59,11 +59,13 @@ def bare(text):
 
 
 class Function:
-    """A function of a crate: its module, its path in `proofs/`, its contract, and where it stands in the file."""
+    """A function of a crate: its module, which has no name for a function of `lib.rt` itself, its path in `proofs/`, its contract,
+    and where it stands in the file."""
 
     def __init__(self, module, text, match, owner):
         self.module, self.name, self.owner = module, match[3], owner
-        self.path = "/".join(filter(None, (module, owner, self.name)))
+        self.within = module if module != "lib" else None
+        self.path = "/".join(filter(None, (self.within, owner, self.name)))
         self.shown = "::".join(filter(None, (owner, self.name)))
         self.public = bool(PUBLIC.match(text, match.start(2)))
         self.head = re.sub(r",\s*\)", ")", re.sub(r"\(\s+", "(", " ".join(match[2].split())))
@@ -93,7 +95,7 @@ def called(function, all_functions, source):
     """The functions of its crate that a function calls."""
     used = {name: module for module, name in USED.findall(source)}
     for owner, name in re.findall(r"(?:\b(\w+)::|\.)?\b(\w+)\(", function.body):
-        places = [f"{function.module}/{name}", f"{used.get(name)}/{name}"]
+        places = [name, f"{function.module}/{name}", f"{used.get(name)}/{name}"]
         places += [path for path in all_functions if path.endswith(f"/{owner or function.owner}/{name}")]
         yield from (all_functions[path] for path in places if path in all_functions)
 
@@ -143,6 +145,11 @@ def refused(function, found, crate):
     return [(other, other.wrong) for other in seen if other.wrong]
 
 
+def place(crate, function):
+    """The name of a function with its crate and module before it."""
+    return "::".join(filter(None, (crate.name, function.within, function.shown)))
+
+
 def entry(function, found, crate):
     """What the page says of a function."""
     code = "\n".join([function.head, *(f"    {clause}" for clause in function.contract)])
@@ -151,7 +158,7 @@ def entry(function, found, crate):
         for other, names in refused(function, found, crate)
     ]
     wrong = "Refused: " + "; ".join(said) if said else f"No wrong program here: {EXCEPTIONS.get(function.shown)}"
-    return f"### `{crate.name}::{function.module}::{function.shown}`\n\n```text\n{code}\n```\n\n{textwrap.fill(wrong, 130, break_on_hyphens=False)}.\n"
+    return f"### `{place(crate, function)}`\n\n```text\n{code}\n```\n\n{textwrap.fill(wrong, 130, break_on_hyphens=False)}.\n"
 
 
 def page(all_libraries):
@@ -168,7 +175,7 @@ def uncovered(all_libraries):
     for crate, found in all_libraries:
         for function in found.values():
             if function.public and not refused(function, found, crate):
-                yield f"{crate.name}::{function.module}", function.shown
+                yield place(crate, function), function.shown
 
 
 def self_test():
@@ -177,20 +184,23 @@ def self_test():
         crate = Path(folder) / "crates/planted"
         for part in ("src", "must-fail"):
             (crate / part).mkdir(parents=True)
-        (crate / "src/lib.rt").write_text("pub mod a;\n", "utf-8")
+        (crate / "src/lib.rt").write_text("pub mod a;\npub fn low() -> u8\n    ensures { λ r. ⌜ r ≡ 3 ⌝ }\n{\n    3\n}\n", "utf-8")
         (crate / "src/a.rt").write_text(
             "fn inner(x: u8) -> u8 {\n    x // outer()\n}\n"
             "pub fn outer(\n    x: u8,\n) -> u8\n    ensures { λ r. ⌜ r ≡ {A} x ⌝ }\n{\n    inner(x)\n}\n"
             "impl T {\n    pub fn own(self) -> u8\n        ensures { λ r. ⌜ r ≡ 1 ⌝ }\n    {\n        1\n    }\n}\n"
             "pub fn bare() -> u8\n    ensures { λ r. ⌜ r ≡ 2 ⌝ }\n{\n    2\n}\n", "utf-8")
-        (crate / "must-fail/together_1.edit").write_text("# wrong: refused at proofs/a/inner/Proof.antt\n", "utf-8")
+        (crate / "must-fail/together_1.edit").write_text(
+            "# wrong: refused at proofs/a/inner/Proof.antt\n# lower: refused at proofs/low/Proof.antt\n"
+            "# definition_y: refused at proofs/Laws/A.antt b\n", "utf-8")
         (crate / "must-fail/one.edit").write_text("file: src/a.rt\nold:         1\nnew:         0\n", "utf-8")
         (crate / "must-fail/definition_x.edit").write_text("file: src/a.rt\nold:     2\nnew:     3\n", "utf-8")
         made = list(libraries(Path(folder)))
         said = page(made)
-        if list(uncovered(made)) != [("planted::a", "bare")] or not all(
-            part in said for part in ("outer(x: u8) -> u8\n    ensures { λ r. ⌜ r ≡ {A} x ⌝ }\n", "`wrong` in `inner`", "`one`.")
-        ):
+        parts_of_it = (
+            "outer(x: u8) -> u8\n    ensures { λ r. ⌜ r ≡ {A} x ⌝ }\n", "`wrong` in `inner`", "`one`.", "### `planted::low`\n", "`lower`.",
+        )
+        if list(uncovered(made)) != [("planted::a::bare", "bare")] or not all(part in said for part in parts_of_it) or "definition_y" in said:
             sys.exit(f"functions.py does not find what it should:\n{said}")
 
 
@@ -198,13 +208,13 @@ def main():
     self_test()
     all_libraries = list(libraries(ROOT))
     none = list(uncovered(all_libraries))
-    bad = [f"{place}::{name}: no wrong program is refused at it" for place, name in none if name not in EXCEPTIONS]
+    bad = [f"{whole}: no wrong program is refused at it" for whole, name in none if name not in EXCEPTIONS]
     bad += [f"{name}: an exception that is none" for name in EXCEPTIONS if name not in {name for _, name in none}]
     made = page(all_libraries)
     if "--check" not in sys.argv[1:]:
         PAGE.parent.mkdir(exist_ok=True)
         PAGE.write_text(made, "utf-8")
-        print("\n".join(f"{place}::{name}: no wrong program: {EXCEPTIONS[name]}" for place, name in none if name in EXCEPTIONS))
+        print("\n".join(f"{whole}: no wrong program: {EXCEPTIONS[name]}" for whole, name in none if name in EXCEPTIONS))
     elif not PAGE.exists() or PAGE.read_text("utf-8") != made:
         bad.append(f"{PAGE.relative_to(ROOT)} is not what python3 tests/functions.py makes")
     print("\n".join(bad), end="\n" if bad else "")

@@ -1,20 +1,20 @@
 ghost use mathlib.Core.Path.{_≡_};
 ghost use Rattle.answers.specs.Counts.{octetsFor, fillingFor, begunBy};
 
-// A count of bits inside an encoding, and a count of octets outside, or a place that has so many before it. What lies
-// between the two is said below and nowhere else: bits become octets, and are filled up or cut to whole ones.
+// A count of bits inside an encoding, or a place with so many bits before it.
 #[repr(C)]
 pub struct Bits {
     pub count: u32,
 }
 
+// A count of octets outside an encoding, or a place with so many octets before it.
 #[repr(C)]
 pub struct Octets {
     pub count: usize,
 }
 
 impl Bits {
-    // The fewest octets that carry the bits.
+    // The fewest octets that carry the bits: the one conversion of a count of bits to a count of octets.
     pub fn octets(self) -> Octets
         ensures { λ r. ⌜ r ≡ octetsFor self ⌝ }
     {
@@ -23,7 +23,7 @@ impl Bits {
         }
     }
 
-    // The bits that are missing to whole octets.
+    // The bits that fill the last octet.
     pub fn filling(self) -> Bits
         ensures { λ r. ⌜ r ≡ fillingFor self ⌝ }
     {

@@ -9,7 +9,7 @@ unfoldable pub quotient : ℤ → ℕ → ℤ
 quotient (pos k) d = pos (k / d)
 quotient (negsuc k) d = negsuc (k / d)
 
--- The remainder that goes with it, 0 to d - 1: of -1 by 4 it is 3.
+-- The remainder of y by d, where the quotient is rounded down, 0 to d - 1: of -1 by 4 it is 3.
 unfoldable pub remainder : ℤ → ℕ → ℕ
 remainder (pos k) d = k % d
 remainder (negsuc k) d = d - 1 - k % d

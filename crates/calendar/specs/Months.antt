@@ -6,11 +6,11 @@ use lib.ListN.{getD}
 use lib.IntN.{ℤ}
 use Rattle.calendar.specs.Years.{leapOf}
 
--- The days of each month of a common year, ..
+-- The days of each month of a common year.
 abbrev pub commonRow : List ℕ
 commonRow = 31 ∷ 28 ∷ 31 ∷ 30 ∷ 31 ∷ 30 ∷ 31 ∷ 31 ∷ 30 ∷ 31 ∷ 30 ∷ 31 ∷ []
 
--- .. and of a leap year.
+-- The days of each month of a leap year.
 abbrev pub leapRow : List ℕ
 leapRow = 31 ∷ 29 ∷ 31 ∷ 30 ∷ 31 ∷ 30 ∷ 31 ∷ 31 ∷ 30 ∷ 31 ∷ 30 ∷ 31 ∷ []
 

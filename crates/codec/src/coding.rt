@@ -22,7 +22,8 @@ fn answer_under(entry: Entry, t: Type, input: &[u8], room: &mut [u8]) -> Outcome
     }
 }
 
-// The same under the type that a text names or lists; or the type's refusal, which comes before all others.
+// Puts what an entry point gives under the type that a text names or lists at the front of the room, or refuses. The
+// type's refusal comes before all others.
 pub fn answer(
     entry: Entry,
     settings: &[u8],

@@ -1,5 +1,5 @@
 // The entry points: a text becomes octets and octets become a text, under the type that a text names or lists, in
-// lent room. Each takes any octets at all. The same functions are exported to C (include/anafzir.h).
+// lent room. Each takes any octets at all, and each is exported to C (include/anafzir.h).
 pub mod coding;
 pub mod exported;
 pub mod limits;

@@ -9,10 +9,13 @@ ghost use Rattle.types.specs.declared.types.Name.{Name};
 ghost use Rattle.held_values.specs.Existence.{existsValue};
 ghost use Rattle.der_elements.specs.Der.{noBits, derEncoded};
 ghost use Rattle.der_elements.specs.Elements.{tagOf, omits as omitsIn, contentsOf, element, elementOf};
+use crate::tags::tag_length;
+use crate::tags::tag_of;
 use answers::Bits;
 use answers::Octets;
 use answers::Outcome;
 use answers::Refusal;
+use octets::put_octets;
 use printing::TEXT_CAPACITY;
 use printing::text_into;
 use texts::Value;
@@ -97,42 +100,15 @@ pub(crate) fn put_contents(room: &mut [u8], at: usize, name: Name, text: &[u8]) 
     place
 }
 
-// Puts a tag of two octets at the front.
-fn put_long_tag(room: &mut [u8], number: u8) -> usize
-    requires { ⌜ 2 ≤ length (now room) ⌝ }
-    ensures { λ r. ⌜ StoredText (now (room .entry)) (now (room .exit)) 0 (31 ∷ number ∷ []) r ⌝ }
-{
-    room[0] = 0x1F;
-    room[1] = number;
-    2
-}
-
 // Puts the tag at the front.
 fn put_tag(room: &mut [u8], name: Name) -> usize
     requires { ⌜ 2 ≤ length (now room) ⌝ }
     ensures { λ r. ⌜ StoredText (now (room .entry)) (now (room .exit)) 0 (tagOf name) r ⌝ }
 {
-    match name {
-        Name::Listed => {
-            room[0] = 0x0E;
-            1
-        }
-        Name::Date => put_long_tag(room, 0x1F),
-        Name::TimeOfDay => put_long_tag(room, 0x20),
-        Name::DateTime => put_long_tag(room, 0x21),
-    }
-}
-
-// How many octets a tag has.
-pub(crate) fn tag_length(name: Name) -> usize
-    ensures { λ r. ⌜ r ≡ length (tagOf name) ⌝ }
-{
-    match name {
-        Name::Listed => 1,
-        Name::Date => 2,
-        Name::TimeOfDay => 2,
-        Name::DateTime => 2,
-    }
+    let tag = tag_of(name);
+    let octets = tag.octets;
+    let count = tag.length;
+    put_octets(room, 0, &octets[..count])
 }
 
 // Puts the element of a text at the front: the tag, the length, and so many octets of contents.

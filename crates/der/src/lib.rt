@@ -3,6 +3,7 @@
 pub mod decoding;
 pub mod elements;
 mod readings;
+mod tags;
 
 pub use decoding::decode;
 pub use elements::encode;

@@ -11,7 +11,8 @@ ghost use Rattle.types.specs.declared.types.Name.{Name};
 ghost use Rattle.encodings.specs.Encodings.{ofText};
 ghost use Rattle.der_elements.specs.Elements.{tagOf};
 ghost use Rattle.der_elements.specs.Readings.{allDigits, digitsOnly, separated, readContents, readLength, readElement};
-use crate::elements::tag_length;
+use crate::tags::tag_length;
+use crate::tags::tag_of;
 use octets::put_octets;
 use octets::same;
 use reading::read_text;
@@ -62,7 +63,8 @@ fn put_fields(room: &mut [u8], at: usize, separator: u8, width: usize, digits: &
 // Reads a date or a time from its digits: 4 or 2 for the first field, and two for each of the others.
 fn read_fields(form: Form, separator: u8, width: usize, contents: &[u8]) -> TextRead
     requires { ⌜ width ≤ 4 ⌝ }
-    ensures { λ r. ⌜ ofText r ≡ cond (digitsOnly (width + 4) (now (contents .entry))) (ofText (readOf form (separated separator width (now (contents .entry))))) none ⌝ }
+    ensures { λ r. ⌜ ofText r ≡ cond (digitsOnly (width + 4) (now (contents .entry)))
+        (ofText (readOf form (separated separator width (now (contents .entry))))) none ⌝ }
 {
     if !digits_only(width + 4, contents) {
         return TextRead::NotOfForm;
@@ -131,12 +133,10 @@ fn begins(octets: &[u8], front: &[u8]) -> bool
 fn has_tag(name: Name, octets: &[u8]) -> bool
     ensures { λ r. ⌜ r ≡ eqList (take (length (tagOf name)) (now (octets .entry))) (tagOf name) ⌝ }
 {
-    match name {
-        Name::Listed => begins(octets, b"\x0E"),
-        Name::Date => begins(octets, b"\x1F\x1F"),
-        Name::TimeOfDay => begins(octets, b"\x1F\x20"),
-        Name::DateTime => begins(octets, b"\x1F\x21"),
-    }
+    let tag = tag_of(name);
+    let front = tag.octets;
+    let count = tag.length;
+    begins(octets, &front[..count])
 }
 
 // Reads an element: tag, length and contents.

@@ -26,10 +26,10 @@ inDer = record { row = nameOf; encoding = elementOf; count = λ name v. noBits; 
 abbrev pub der : Kind Ty Form Name Value
 der = encodedBy inDer
 
--- What encoding a text answers, ..
+-- What encoding a text answers.
 abbrev pub derEncoded : Ty → List ℕ → Answer
 derEncoded t text = encoded der t text
 
--- .. and what decoding octets does.
+-- What decoding octets answers.
 abbrev pub derDecoded : Ty → List ℕ → Answer
 derDecoded t octets = decoded der t octets

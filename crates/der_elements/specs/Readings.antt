@@ -27,11 +27,11 @@ digitsOnly n l = eqb (length l) n && allDigits l
 unfoldable pub separated : ℕ → ℕ → List ℕ → List ℕ
 separated c w l = take w l ++ c ∷ (take 2 (drop w l) ++ c ∷ drop 2 (drop w l))
 
--- The text of a date from its digits, ..
+-- The text of a date from its digits.
 abbrev pub dated : List ℕ → List ℕ
 dated = separated hyphen 4
 
--- .. and of a time.
+-- The text of a time from its digits.
 abbrev pub timed : List ℕ → List ℕ
 timed = separated colon 2
 

@@ -18,7 +18,7 @@ abbrev pub ofText : TextRead → Option Value
 ofText (TextRead.Value v s) = some v
 ofText TextRead.NotOfForm = none
 
--- An encoding of them: what of a type it goes by, the octets of a value with their bit count, and what octets give at a form.
+-- An encoding of dates and times: what of a type it goes by, the octets of a value with their bit count, and what octets give at a form.
 pub record Encoding (R : Type 0) : Type 0 where
   pub row : Ty → R
   pub encoding : R → Value → List ℕ

@@ -64,28 +64,29 @@ answerInC e settings limits input = underLimits (limitsGiven limits) λ l. answe
 
 -- ---- demand 1
 
--- It "comes back with a result or with one of seven numbered refusals. A refusal returns its number with length 0, and the lent room then
--- holds the octets it held before."
+-- An entry point "comes back with a result or with one of seven numbered refusals. A refusal returns its number with length 0, and the lent
+-- room then holds the octets it held before."
 pub data ComesBack (answer : Answer) (room : List ℕ) : Type 0 where
   a-result : (result : List ℕ) (bits : ℕ) → length result ≤ length room → Returned answer room result bits → ComesBack answer room
   a-refusal : (number : ℕ) → 1 ≤ number → number ≤ 7 → Refused answer room number → ComesBack answer room
 
--- "Every entry point takes any type settings, any text, any octets and any lent room, and comes back ..": from Rattle, ..
+-- "Every entry point takes any type settings, any text, any octets and any lent room, and comes back ..": this is said of a call from Rattle.
 abbrev pub Demand1 : Type 0
 Demand1 = (e : Entry) (settings : List ℕ) (limits : Limits) (input room : List ℕ) → ComesBack (answerOf e settings limits input) room
 
--- .. and from C.
+-- "Every entry point takes any type settings, any text, any octets and any lent room, and comes back ..": this is said of a call from C.
 abbrev pub Demand1InC : Type 0
 Demand1InC = (e : Entry) (settings : List ℕ) (limits : GivenLimits) (input room : List ℕ) → ComesBack (answerInC e settings limits input) room
 
--- The limits of the header's struct: "a lowest and a highest year" where its first number is not 0, "no hour 24" where that number is not 0.
+-- The limits of the header's struct: "a lowest and a highest year" where `years` is not 0, "no hour 24" where `no24` is not 0.
 pub record LimitsStand (given : GivenLimits) (l : Limits) : Type 0 where
   pub every-year : given .years ≡ 0 → l .window ≡ Window.Every
   pub window-is : given .years ≢ 0 → l .window ≡ Window.Within (yearAt (given .lowest)) (yearAt (given .highest))
   pub hour-24 : given .no24 ≡ 0 → l .hour24 ≡ true
   pub no-hour-24 : given .no24 ≢ 0 → l .hour24 ≡ false
 
--- Under these limits the answer is the entry point's, so that all that is claimed is of both; a count has no place, which is 1.
+-- What an entry point answers from C: what it answers from Rattle under the limits that C gives, so that all that is claimed is of both; or 1
+-- where there is a count, which has no place.
 pub record FromC (given : GivenLimits) : Type 0 where
   pub limits-are : given .counts ≡ 0
       → (l : Limits) × LimitsStand given l × ((e : Entry) (settings input : List ℕ) → answerInC e settings given input ≡ answerOf e settings l input)
@@ -101,16 +102,16 @@ LimitsFromC = (given : GivenLimits) → FromC given
 pub record Demand2 {T F R A : Type 0} (K : Kind T F R A) {S : Type 0} (render : S → A → List ℕ) (write read : List ℕ → Answer) (t : T)
     (octets : A → List ℕ) (bits : A → ℕ) : Type 0 where
   -- "the text of a value becomes exactly the unaligned PER bits of X.691 Amendment 2, or the DER octets of X.690 Amendment 2": in any spelling,
-  -- in any room that suffices ..
+  -- in any room that suffices.
   pub writes : (v : A) → holds K t v ≡ true → (s : S) (room : List ℕ) → length (octets v) ≤ length room
       → Returned (write (render s v)) room (octets v) (bits v)
-  -- .. and 7 in any other
+  -- Where the room is shorter than the octets, the number is 7.
   pub no-room : (v : A) → holds K t v ≡ true → (s : S) (room : List ℕ) → length room < length (octets v) → Refused (write (render s v)) room 7
   -- nothing else is a text of the type
   pub texts-only : (text room : List ℕ) → outcomeOf (write text) room .number ≡ 0 → (v : A) × (holds K t v ≡ true) × (s : S) × (text ≡ render s v)
-  -- "and either one comes back as the value's canonical text": in any room that suffices, with the same bit count ..
+  -- "and either one comes back as the value's canonical text": in any room that suffices, with the same bit count.
   pub reads : (v : A) → holds K t v ≡ true → (room : List ℕ) → length (K .textOf v) ≤ length room → Returned (read (octets v)) room (K .textOf v) (bits v)
-  -- .. and 7 in any other
+  -- Where the room is shorter than the text, the number is 7.
   pub no-room-back : (v : A) → holds K t v ≡ true → (room : List ℕ) → length room < length (K .textOf v) → Refused (read (octets v)) room 7
   -- "The decoder takes what the encoder writes for that type and nothing more."
   pub nothing-more : (input room : List ℕ) → outcomeOf (read input) room .number ≡ 0
@@ -136,15 +137,15 @@ Demand2InDer = (settings : List ℕ) (limits : Limits) (t : Ty) → typeOf limit
 -- the writer's value v, of any kind.
 pub record Demand3 {T F R A : Type 0} (K : Kind T F R A) (written : Answer) (lent : List ℕ) (read : List ℕ → Answer) (r : T) (v : A) : Type 0 where
   -- "Then the reader returns precisely the writer's value, as its canonical text with the writer's bit count, exactly when its own type holds that
-  -- value": where it "has room for the value's text" ..
+  -- value": where it "has room for the value's text".
   pub returns : holds K r v ≡ true → (room : List ℕ) → length (K .textOf v) ≤ length room
       → Returned (read (sent written lent)) room (K .textOf v) (outcomeOf written lent .bits .count)
-  -- .. and 7 in any other room
+  -- Where the room is shorter than the text, the number is 7.
   pub no-room : holds K r v ≡ true → (room : List ℕ) → length room < length (K .textOf v) → Refused (read (sent written lent)) room 7
   -- "Otherwise it refuses, with the number that document 01 gives", whatever the room: 5 where the value's canonical text is of the form of the
-  -- reader's type, ..
+  -- reader's type.
   pub refuses-5 : holds K r v ≡ false → (a : A) → K .readText (K .form r) (K .textOf v) ≡ some a → (room : List ℕ) → Refused (read (sent written lent)) room 5
-  -- .. and 3 where it isn't
+  -- Where the value's canonical text isn't of the form of the reader's type, the number is 3, whatever the room.
   pub refuses-3 : K .readText (K .form r) (K .textOf v) ≡ none → (room : List ℕ) → Refused (read (sent written lent)) room 3
 
 -- "Take any two types, one for a writer and one for a reader, whatever years and limits each sets, and any value that the writer's type holds.": in
@@ -227,32 +228,32 @@ SevenNumbers = (e : Entry) (settings : List ℕ) (limits : Limits) (input room :
 -- ---- the answers that are enums
 
 -- "For each answer that is an enum, a definition gives this paper's number and values for each of the enum's cases, and the promises use that
--- definition": where the number of such an answer is not 0, it is the entry point's. Of a type's text, ..
+-- definition": where the number of what a type's text gives is not 0, it is the entry point's.
 abbrev pub TypesTold : Type 0
 TypesTold = (e : Entry) (settings : List ℕ) (limits : Limits) (input room : List ℕ) → typeNumber (typeOf limits settings) ≢ 0
     → outcomeOf (answerOf e settings limits input) room .number ≡ typeNumber (typeOf limits settings)
 
--- .. of a text under the type, ..
+-- Where the number of what a text gives under a type is not 0, it is the encoder's, in PER and in DER.
 abbrev pub TextsTold : Type 0
 TextsTold = (settings : List ℕ) (limits : Limits) (t : Ty) → typeOf limits settings ≡ TypeRead.«Type» t → (text room : List ℕ)
     → admissionNumber (admitted t text) ≢ 0
     → (outcomeOf (perEncode settings limits text) room .number ≡ admissionNumber (admitted t text))
     × (outcomeOf (derEncode settings limits text) room .number ≡ admissionNumber (admitted t text))
 
--- .. of what is read from bits, ..
+-- Where the number of what is read from bits is not 0, it is the decoder's.
 abbrev pub BitsTold : Type 0
 BitsTold = (settings : List ℕ) (limits : Limits) (t : Ty) → typeOf limits settings ≡ TypeRead.«Type» t → (octets room : List ℕ)
     → valueNumber (valueIn (readOctets (yearRowOf t) (formOf t) octets)) ≢ 0
     → outcomeOf (perDecode settings limits octets) room .number ≡ valueNumber (valueIn (readOctets (yearRowOf t) (formOf t) octets))
 
--- .. and of a value that octets give.
+-- Where the number of what is judged of a value that octets give is not 0, it is the decoder's, in PER and in DER.
 abbrev pub ValuesTold : Type 0
 ValuesTold = (settings : List ℕ) (limits : Limits) (t : Ty) → typeOf limits settings ≡ TypeRead.«Type» t → (octets room : List ℕ) (v : Value)
     → judgementNumber (judged t v) ≢ 0
     → (readAs per decodes t octets ≡ some v → outcomeOf (perDecode settings limits octets) room .number ≡ judgementNumber (judged t v))
     × (readAs der decodes t octets ≡ some v → outcomeOf (derDecode settings limits octets) room .number ≡ judgementNumber (judged t v))
 
--- From C, of the limits that are given: 1 where a count is among them, which has no place, and 0 for all others.
+-- The number of limits that C gives is 0; where a count is among them, which has no place, it is 1, and so is the entry point's.
 abbrev pub LimitsTold : Type 0
 LimitsTold = (e : Entry) (settings : List ℕ) (given : GivenLimits) (input room : List ℕ)
     → (given .counts ≡ 0 → limitsNumber (limitsGiven given) ≡ 0)

@@ -1,4 +1,4 @@
-// The entry points: an encoding, and the way.
+// The entry points: encoding or decoding, in unaligned PER or in DER.
 pub enum Entry {
     PerEncode,
     PerDecode,

@@ -1,8 +1,8 @@
 use types::Limits;
 
-// A type's limits as C passes them, in the order of the header's struct: whether there is a lowest and a highest year,
-// both years, whether hour 24 is none of the times, and the same for counts of recurrences. What is 0 says no, any
-// other number yes.
+// A type's limits as C passes them, in the order of the header's struct. `years` is 0 where there is no lowest and no
+// highest year, `no24` is 0 where hour 24 is allowed, and `counts` is 0 where there is no fewest and no most of
+// recurrences. Any other number says that there is such a limit.
 #[repr(C)]
 pub struct GivenLimits {
     pub years: u32,
@@ -14,7 +14,7 @@ pub struct GivenLimits {
     pub most: u32,
 }
 
-// What they give: limits, or that one of them has its place in no type.
+// What limits from C give: a type's limits, or that one of them has its place in no type.
 pub enum LimitsRead {
     Limits(Limits),
     Misplaced,

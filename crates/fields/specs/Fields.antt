@@ -5,7 +5,8 @@ use lib.IntN.{ℤ}
 use Rattle.fields.specs.Bits.{BitString, bitsOf}
 use Rattle.fields.specs.Integers.{fewest, twos}
 
--- A number of an ASN.1 range of r numbers, counted from the lowest of them; or a free integer.
+-- A constrained whole number, which is one of an ASN.1 range of r numbers, counted from the lowest of them; or an unconstrained whole number,
+-- which is a free integer.
 pub data Field : Type 0 where
   Ranged : ℕ → ℕ → Field
   Free : ℤ → Field
@@ -30,12 +31,12 @@ unfoldable pub layout : List Field → BitString
 layout [] = []
 layout (f ∷ fs) = fieldBits f ++ layout fs
 
--- The width of a field, ..
+-- The width of a field.
 unfoldable pub fieldWidth : Field → ℕ
 fieldWidth (Ranged r v) = width r
 fieldWidth (Free z) = 8 + 8 * fewest z
 
--- .. and "the plain sum of these widths, before the filling".
+-- The bit count of fields: "the plain sum of these widths, before the filling".
 unfoldable pub bitCount : List Field → ℕ
 bitCount [] = 0
 bitCount (f ∷ fs) = fieldWidth f + bitCount fs

@@ -10,7 +10,7 @@ use Rattle.fields.specs.Bits.{BitString, numberIn}
 use Rattle.fields.specs.Integers.{within, fromTwos}
 use Rattle.fields.specs.Fields.{Field, Ranged, Free, width}
 
--- Give a result; read a number of a range, or a free integer, and go on by it; or find nothing.
+-- Give a result; read a constrained whole number (of a range) or an unconstrained one (a free integer), and go on by it; or find nothing.
 pub data Reading (A : Type 0) : Type 0 where
   give : A → Reading A
   ranged : ℕ → (ℕ → Reading A) → Reading A
@@ -26,11 +26,11 @@ module _ {A B : Type 0} where
   free k >>= f = free (λ z. k z >>= f)
   refuse >>= f = refuse
 
--- A number of a range, ..
+-- A reading of one number of a range.
 unfoldable pub aRanged : ℕ → Reading ℕ
 aRanged r = ranged r give
 
--- .. and a free integer.
+-- A reading of one free integer.
 unfoldable pub aFree : Reading ℤ
 aFree = free give
 
@@ -61,7 +61,7 @@ module _ {A : Type 0} where
   run (free k) s = onward (readFree s) (λ z. run (k z))
   run refuse s = nothing
 
-  -- The same from fields: nothing where a field is not of the range that is read, not in it, or of more than four octets.
+  -- A reading from fields: nothing where a field is not of the range that is read, not in it, or of more than four octets.
   unfoldable pub over : Reading A → List Field → Found Field A
   over (give a) fs = found a fs
   over (ranged r k) [] = nothing

@@ -8,24 +8,24 @@ use Rattle.fields.specs.Bits.{BitString, bitsOf}
 use Rattle.fields.specs.Integers.{within, twos}
 use Rattle.fields.specs.Fields.{Field, Ranged, Free, width}
 
--- Fields as they are spelled: a free integer in n octets, ..
+-- A field as it is spelled: a number of a range, or a free integer (an unconstrained whole number) in n octets.
 pub data SpelledField : Type 0 where
   Range : ℕ → ℕ → SpelledField
   Integer : ℕ → ℤ → SpelledField
 
--- .. the fields that they spell, ..
+-- The fields that are spelled.
 unfoldable pub spelledFields : List SpelledField → List Field
 spelledFields [] = []
 spelledFields (Range r v ∷ ws) = Ranged r v ∷ spelledFields ws
 spelledFields (Integer n z ∷ ws) = Free z ∷ spelledFields ws
 
--- .. whether each integer stands in 1 to 4 octets that hold it, ..
+-- Whether each integer stands in 1 to 4 octets that hold it.
 unfoldable pub wellSpelled : List SpelledField → Bool
 wellSpelled [] = true
 wellSpelled (Range r v ∷ ws) = wellSpelled ws
 wellSpelled (Integer n z ∷ ws) = leb 1 n && leb n 4 && within n z && wellSpelled ws
 
--- .. and their bits.
+-- The bits of fields as they are spelled.
 unfoldable pub spelledBits : List SpelledField → BitString
 spelledBits [] = []
 spelledBits (Range r v ∷ ws) = bitsOf (width r) v ++ spelledBits ws

@@ -1,2 +1,2 @@
-// The fields of an encoding as definitions: how they lie in bits, and how bits are read as fields. The crates
-// `packing` and `unpacking` write and read them.
+// The fields of an encoding as definitions with their laws: how constrained and unconstrained whole numbers lie in bits,
+// and how bits are read as fields.

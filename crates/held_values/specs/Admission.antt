@@ -44,6 +44,6 @@ abbrev pub judgedRead : Ty → TextRead → Admission
 judgedRead t (TextRead.Value v s) = givenAs v (judged t v)
 judgedRead t TextRead.NotOfForm = Admission.Refused Refusal.Form
 
--- A description that no settings and no name give is 1.
+-- A description that no settings and no name of a useful time type give is 1.
 unfoldable pub admitted : Ty → List ℕ → Admission
 admitted t l = cond (wellFormed t) (judgedRead t (readOf (formOf t) l)) (Admission.Refused Refusal.Settings)

@@ -9,19 +9,19 @@ use Rattle.texts.specs.declared.values.Zone.{Zone}
 use Rattle.texts.specs.declared.values.Time.{Time}
 use Rattle.texts.specs.declared.values.Value.{Value}
 
--- The fields of a clock, where one that it does not show is 0: hours, ..
+-- The hours of a clock.
 abbrev pub hoursOf : Clock → ℕ
 hoursOf (Clock.H hours) = hours
 hoursOf (Clock.HM hours minutes) = hours
 hoursOf (Clock.HMS hours minutes seconds) = hours
 
--- .. minutes, ..
+-- The minutes of a clock, 0 where it does not show them.
 abbrev pub minutesOf : Clock → ℕ
 minutesOf (Clock.H hours) = 0
 minutesOf (Clock.HM hours minutes) = minutes
 minutesOf (Clock.HMS hours minutes seconds) = minutes
 
--- .. and seconds.
+-- The seconds of a clock, 0 where it does not show them.
 abbrev pub secondsOf : Clock → ℕ
 secondsOf (Clock.H hours) = 0
 secondsOf (Clock.HM hours minutes) = 0

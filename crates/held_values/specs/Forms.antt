@@ -6,16 +6,16 @@ use Rattle.texts.specs.declared.forms.TimeForm.{TimeForm}
 use Rattle.texts.specs.declared.forms.Form.{Form}
 use Rattle.types.specs.Numbers.{dateNumber, clockNumber, zoneNumber}
 
--- Whether two forms of a date are one, ..
+-- Whether two forms of a date are one.
 unfoldable pub sameDateForm : DateForm → DateForm → Bool
 sameDateForm f g = eqb (dateNumber f) (dateNumber g)
 
--- .. whether two of a time are, n included, ..
+-- Whether two forms of a time are one, n included.
 unfoldable pub sameTimeForm : TimeForm → TimeForm → Bool
 sameTimeForm f g =
     eqb (clockNumber (f .clock)) (clockNumber (g .clock)) && eqb (f .digits) (g .digits) && eqb (zoneNumber (f .zone)) (zoneNumber (g .zone))
 
--- .. and whether two forms are: laws same-form and form-same say that this is their equality.
+-- Whether two forms are one: laws same-form and form-same say that this is their equality.
 abbrev pub sameForm : Form → Form → Bool
 sameForm (Form.Date d) (Form.Date e) = sameDateForm d e
 sameForm (Form.Date d) (Form.Time u) = false

@@ -24,27 +24,27 @@ use Rattle.held_values.specs.Existence.{hoursOf, existsValue}
 unfoldable pub between : ℤ → ℤ → ℤ → Bool
 between lowest highest y = leZ lowest y && leZ y highest
 
--- "`Year`: Basic (1582 to 9999), ..
+-- "`Year`: Basic (1582 to 9999)"
 abbrev pub inBasic : ℤ → Bool
 inBasic y = between (pos 1582) (pos 9999) y
 
--- .. Proleptic (0000 to 1581), ..
+-- "Proleptic (0000 to 1581)"
 abbrev pub inProleptic : ℤ → Bool
 inProleptic y = between (pos 0) (pos 1581) y
 
--- .. Negative (-9999 to -0001), .. (`negsuc k` is -(k + 1))
+-- "Negative (-9999 to -0001)"; `negsuc k` is -(k + 1).
 abbrev pub inNegative : ℤ → Bool
 inNegative y = between (negsuc 9998) (negsuc 0) y
 
--- .. L5 (five digits after a sign, first digit not 0)".
+-- "L5 (five digits after a sign, first digit not 0)"
 abbrev pub inFive : ℤ → Bool
 inFive y = between (negsuc 99998) (negsuc 9999) y || between (pos 10000) (pos 99999) y
 
--- "each year is of a Year setting that the type names": one of the row without a sign, ..
+-- "each year is of a Year setting that the type names": one of the row without a sign.
 abbrev pub inPlain : PlainYears → ℤ → Bool
 inPlain names y = names .basic && inBasic y || names .proleptic && inProleptic y
 
--- .. or one of the row with a sign.
+-- "each year is of a Year setting that the type names": one of the row with a sign.
 abbrev pub inSigned : SignedYears → ℤ → Bool
 inSigned names y = names .negative && inNegative y || names .five && inFive y
 
@@ -58,21 +58,21 @@ abbrev pub inWindow : Window → ℤ → Bool
 inWindow Window.Every y = true
 inWindow (Window.Within lowest highest) y = between (astronomicalOf lowest) (astronomicalOf highest) y
 
--- What a type asks of a date besides its form: the year, ..
+-- What a type asks of a date besides its form: a year of a Year setting that the type names, in its window.
 unfoldable pub admitsDate : DateType → Date → Bool
 admitsDate t date = inYears (t .years) (astronomicalOf (yearOf date)) && inWindow (t .window) (astronomicalOf (yearOf date))
 
--- .. and of a time: not hour 24, where the type has "no hour 24".
+-- What a type asks of a time besides its form: not hour 24, where the type has "no hour 24".
 unfoldable pub admitsTime : TimeType → Time → Bool
 admitsTime t time = t .hour24 || not (eqb (hoursOf (time .clock)) 24)
 
--- The same of a value: of its date, where it has one, ..
+-- What a type asks of a value's date, where the value has one.
 abbrev pub admitsDateOf : DateType → Value → Bool
 admitsDateOf t (Value.Date date) = admitsDate t date
 admitsDateOf t (Value.Time time) = true
 admitsDateOf t (Value.DateTime date time) = admitsDate t date
 
--- .. and of its time.
+-- What a type asks of a value's time, where the value has one.
 abbrev pub admitsTimeOf : TimeType → Value → Bool
 admitsTimeOf t (Value.Date date) = true
 admitsTimeOf t (Value.Time time) = admitsTime t time

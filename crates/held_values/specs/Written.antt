@@ -15,6 +15,6 @@ use Rattle.held_values.specs.Existence.{existsValue}
 unfoldable pub printed : Value → List ℕ
 printed v = cond (leb (formDigits (valueForm v)) 9) (textOf v) []
 
--- The text has no bits of its own: they are those of the encoding that it was read from. Of no such value there is none.
+-- The canonical text as an answer, with the bits of the encoding that the value was read from; or 4: "no such date, time or difference".
 unfoldable pub written : Bits → Value → Answer
 written bits v = cond (existsValue v) (done (textOf v) bits) (refused Refusal.Existence)

@@ -1,5 +1,5 @@
-// Which values exist and which a type holds, and what a text gives under a type, as definitions with their laws. The crate `values` has the
-// functions.
+// Values under types as definitions with their laws: which values exist, which a type holds, and what a text gives. The
+// crate `values` has the functions.
 pub mod admission;
 
 pub use admission::Admission;

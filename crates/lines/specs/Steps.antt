@@ -15,7 +15,7 @@ abbrev pub octetsIn : Hex → List ℕ → Option (List ℕ)
 octetsIn (Hex.Length n) buffer = some (take n buffer)
 octetsIn Hex.Bad buffer = none
 
--- How many they are.
+-- How many octets a reader of hex leaves at the front of a buffer.
 abbrev pub countIn : Hex → ℕ
 countIn (Hex.Length n) = n
 countIn Hex.Bad = 0

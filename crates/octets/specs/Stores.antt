@@ -12,10 +12,10 @@ pub record StoredText (l m : List ℕ) (at : ℕ) (t : List ℕ) (r : ℕ) : Typ
   pub text : m ≡ sets l at t
   pub end : r ≡ at + length t
 
--- The room with octets stored from a place on, or as it was where it ends before them, ..
+-- The room with octets stored from a place on, or as it was where it ends before them.
 unfoldable pub roomAfter : List ℕ → ℕ → List ℕ → List ℕ
 roomAfter room at octets = cond (leb (at + length octets) (length room)) (sets room at octets) room
 
--- .. and the place after them, or the place itself.
+-- The place after octets that are stored from a place on, or the place itself where the room ends before them.
 unfoldable pub placeAfter : List ℕ → ℕ → List ℕ → ℕ
 placeAfter room at octets = cond (leb (at + length octets) (length room)) (at + length octets) at

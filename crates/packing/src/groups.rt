@@ -1,4 +1,4 @@
-// Groups of bits: whole fields, joined into one number before they are written.
+// Makes groups of bits: whole fields, joined into one number before they are packed into octets.
 ghost use mathlib.Core.Path.{_≡_};
 ghost use mathlib.Core.List.{[], _++_};
 ghost use Prim.Native.Nat.{_+_, _-_, _^_, _≤_, _<_};
@@ -9,13 +9,14 @@ ghost use Rattle.fields.specs.Fields.{Free, fieldBits};
 ghost use Rattle.packing.specs.Groups.{groupBits, integerBits, Fits};
 use answers::Bits;
 
-// So many bits, which a number has as its low ones and nothing above them.
+// A group is so many bits that are not yet packed into octets. They are kept as a number with its width: the number's low
+// bits, as many as the width counts, are the group's, and the number has none above them.
 pub struct Group {
     pub number: u64,
     pub width: Bits,
 }
 
-// 2 to the power k.
+// Gives 2 to the power k.
 pub(crate) fn power(k: u32) -> u64
     requires { ⌜ k < 64 ⌝ }
     ensures { λ r. ⌜ r ≡ 2 ^ k ⌝ }
@@ -23,7 +24,7 @@ pub(crate) fn power(k: u32) -> u64
     1u64 << k
 }
 
-// How much a is more than b, 0 where it is not.
+// Tells how much a is more than b, and gives 0 where it is not.
 pub(crate) fn minus(a: u64, b: u64) -> u64
     ensures { λ r. ⌜ r ≡ a - b ⌝ }
 {
@@ -33,7 +34,7 @@ pub(crate) fn minus(a: u64, b: u64) -> u64
     a - b
 }
 
-// No bits.
+// Makes the group of no bits.
 pub(crate) fn nothing() -> Group
     ensures { λ r. ⌜ groupBits r ≡ [] ⌝ }
     ensures { λ r. ⌜ Fits 0 r ⌝ }
@@ -44,7 +45,7 @@ pub(crate) fn nothing() -> Group
     }
 }
 
-// The low bits of a number.
+// Makes a group of the low bits of a number. A constrained whole number (X.691), which is one of a range, is such a group.
 pub(crate) fn field(width: Bits, number: u64) -> Group
     requires { ⌜ width .count ≤ 56 ⌝ }
     ensures { λ r. ⌜ groupBits r ≡ bitsOf (width .count) number ⌝ }
@@ -56,7 +57,7 @@ pub(crate) fn field(width: Bits, number: u64) -> Group
     }
 }
 
-// One group after the other.
+// Makes one group of two: the bits of the first, and after them those of the second.
 pub(crate) fn join(first: Group, second: Group) -> Group
     requires { ⌜ first .width .count + second .width .count ≤ 56 ⌝ }
     requires { ⌜ Fits (first .width .count) first ⌝ }
@@ -72,7 +73,7 @@ pub(crate) fn join(first: Group, second: Group) -> Group
     }
 }
 
-// How many bits of two's complement an integer takes, in whole octets: n, or -(n + 1).
+// Tells how many bits n takes in two's complement, in whole octets. The integer -(n + 1) takes as many.
 fn integer_width(n: u64) -> Bits
     ensures { λ r. ⌜ r .count ≡ integerBits n ⌝ }
     ensures { λ r. ⌜ r .count ≤ 32 ⌝ }
@@ -89,7 +90,7 @@ fn integer_width(n: u64) -> Bits
     Bits { count: 32 }
 }
 
-// An octet that counts octets, and those: the low bits of a number.
+// Makes a group of a length octet, and of the octets that it counts: the low bits of a number.
 fn counted(width: Bits, number: u64) -> Group
     requires { ⌜ width .count ≤ 32 ⌝ }
     ensures { λ r. ⌜ groupBits r ≡ bitsOf 8 (octetsFor width .count) ++ bitsOf (width .count) number ⌝ }
@@ -102,7 +103,7 @@ fn counted(width: Bits, number: u64) -> Group
     )
 }
 
-// The free integer n.
+// Makes the group of n as an unconstrained whole number (X.691): a free integer with a length octet.
 pub(crate) fn integer(n: u64) -> Group
     ensures { λ r. ⌜ groupBits r ≡ fieldBits (Free (pos n)) ⌝ }
     ensures { λ r. ⌜ Fits 40 r ⌝ }
@@ -110,7 +111,7 @@ pub(crate) fn integer(n: u64) -> Group
     counted(integer_width(n), n)
 }
 
-// The free integer -(n + 1).
+// Makes the group of -(n + 1) as an unconstrained whole number.
 pub(crate) fn negative(n: u64) -> Group
     ensures { λ r. ⌜ groupBits r ≡ fieldBits (Free (negsuc n)) ⌝ }
     ensures { λ r. ⌜ Fits 40 r ⌝ }

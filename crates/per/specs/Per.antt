@@ -39,14 +39,14 @@ inPer = record {
   readOctets = λ row form octets. ofBits (readOctets row form octets);
 }
 
--- Dates and times in it.
+-- Dates and times in unaligned PER.
 abbrev pub per : Kind Ty Form YearRow Value
 per = encodedBy inPer
 
--- What encoding a text answers, ..
+-- What encoding a text in unaligned PER answers.
 abbrev pub perEncoded : Ty → List ℕ → Answer
 perEncoded t text = encoded per t text
 
--- .. and what decoding octets does.
+-- What decoding octets of unaligned PER answers.
 abbrev pub perDecoded : Ty → List ℕ → Answer
 perDecoded t octets = decoded per t octets

@@ -18,7 +18,7 @@ use Rattle.rows.specs.Fields.{otherYear, yearFields, dayFields, clockFie
 use Rattle.rows.specs.Ranges.{carried}
 use Rattle.rows.specs.declared.YearRow.{YearRow}
 
--- The fields of a year, or choice 3 for any year.
+-- The fields of a year, or choice 3 (remainder) for any year.
 unfoldable pub looseYear : Bool → YearRow → ℤ → List Field
 looseYear other YearRow.Year y = cond other (otherYear y) (yearFields YearRow.Year y)
 looseYear other YearRow.AnyYear y = yearFields YearRow.AnyYear y

@@ -22,7 +22,7 @@ use Rattle.fields.specs.Bits.{unpacked}
 use Rattle.fields.specs.Readings.{Reading, give, refuse, _>>=_, aRanged, aFree, require, run}
 use Rattle.rows.specs.declared.YearRow.{YearRow}
 
--- The year after its two choice bits; "3: other years", of any number.
+-- The year after its two choice bits: immediate, near-future, near-past, or remainder, which is "3: other years", of any number.
 unfoldable pub readChoice : ℕ → Reading ℤ
 readChoice zero = aRanged 16 >>= λ n. give (pos (2005 + n))
 readChoice (suc zero) = aRanged 256 >>= λ n. give (pos (2021 + n))

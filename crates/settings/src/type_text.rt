@@ -83,7 +83,7 @@ fn list_type(list: Settings, other: u32) -> Type
     Type::date_time(date, years, time)
 }
 
-// The same under limits.
+// The type of a list under limits, with the Year of a second list of its row, or 0.
 fn limited_list(limits: Limits, list: Settings, other: u32) -> TypeRead
     ensures { λ r. ⌜ r ≡ limitedTo limits (listType list (yearIn list ∷ other ∷ [])) ⌝ }
 {
@@ -160,7 +160,7 @@ fn two_lists(limits: Limits, a: Settings, b: Settings) -> TypeRead
     limited_list(limits, a, second)
 }
 
-// The type of a text that is no name.
+// The type of a text that is no name of a useful time type, under limits given beside it.
 fn read_lists(text: &[u8], limits: Limits) -> TypeRead
     ensures { λ r. ⌜ r ≡ joined limits (listsOf (now (text .entry))) ⌝ }
 {

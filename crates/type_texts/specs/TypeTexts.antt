@@ -1,4 +1,4 @@
--- A type's text: a name, or settings lists with `|` between them.
+-- A type's text: the name of a useful time type (34 bis.4), or settings lists with `|` between them.
 use Prim.Native.Nat.{ℕ, _/_, _%_}
 use mathlib.Core.Bool.{Bool, true, false, not, _&&_, _||_, cond}
 use mathlib.Core.List.{List, [], _∷_, map}
@@ -25,12 +25,12 @@ mostLists = 2
 unfoldable pub listsOf : List ℕ → List Settings
 listsOf l = map listOf (splitOn 124 l)
 
--- "Two lists may differ only in Year ..
+-- "Two lists may differ only in Year": whether they have the same settings besides.
 unfoldable pub sameButYear : Settings → Settings → Bool
 sameButYear s t =
     eqb (basicIn s) (basicIn t) && eqb (dateIn s) (dateIn t) && eqb (timeIn s) (timeIn t) && eqb (zoneIn s) (zoneIn t)
 
--- .. and then only as Basic with Proleptic or Negative with L5; such a pair is one row of Table 2."
+-- "only as Basic with Proleptic or Negative with L5; such a pair is one row of Table 2": 1 for the first pair, 2 for the second.
 unfoldable pub yearFamily : ℕ → ℕ
 yearFamily n = cond (leb n 2) 1 2
 

@@ -34,13 +34,13 @@ yearWord proleptic = bytes "Year=Proleptic"
 yearWord negative = bytes "Year=Negative"
 yearWord five = bytes "Year=L5"
 
--- "`Time`: H, HM, HMS, ..
+-- "`Time`: H, HM, HMS", its fraction aside.
 abbrev pub clockWord : ClockForm → List ℕ
 clockWord ClockForm.H = bytes "Time=H"
 clockWord ClockForm.HM = bytes "Time=HM"
 clockWord ClockForm.HMS = bytes "Time=HMS"
 
--- .. HFn, HMFn, HMSFn": F and the digit n where there is a fraction.
+-- "`Time`: H, HM, HMS, HFn, HMFn, HMSFn": F and the digit n where there is a fraction.
 abbrev pub timeWord : ClockForm → ℕ → List ℕ
 timeWord c n = cond (eqb n 0) (clockWord c) (clockWord c ++ bytes "F" ++ (48 + n) ∷ [])
 
@@ -50,15 +50,15 @@ zoneWord ZoneForm.L = bytes "Local-or-UTC=L"
 zoneWord ZoneForm.Z = bytes "Local-or-UTC=Z"
 zoneWord ZoneForm.LD = bytes "Local-or-UTC=LD"
 
--- The pairs of a list with a date, ..
+-- The pairs of a list with a date.
 abbrev pub datePairs : DateForm → YearSetting → List (List ℕ)
 datePairs f y = bytes "Basic=Date" ∷ dateWord f ∷ yearWord y ∷ []
 
--- .. with a time, ..
+-- The pairs of a list with a time.
 abbrev pub timePairs : TimeForm → List (List ℕ)
 timePairs t = bytes "Basic=Time" ∷ timeWord (t .clock) (t .digits) ∷ zoneWord (t .zone) ∷ []
 
--- .. and with both.
+-- The pairs of a list with a date and a time.
 abbrev pub dateTimePairs : DateForm → TimeForm → YearSetting → List (List ℕ)
 dateTimePairs f t y =
     bytes "Basic=Date-Time" ∷ dateWord f ∷ yearWord y ∷ timeWord (t .clock) (t .digits) ∷ zoneWord (t .zone) ∷ []

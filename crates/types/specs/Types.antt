@@ -25,23 +25,23 @@ typeNumber (TypeRead.«Type» t) = 0
 typeNumber TypeRead.Unreadable = numberOf Refusal.Settings
 typeNumber TypeRead.NoRow = numberOf Refusal.Rows
 
--- A date without a restriction, ..
+-- A date without a restriction.
 abbrev pub unlimitedDate : DateForm → Years → DateType
 unlimitedDate f y = record { form = f; years = y; window = Window.Every }
 
--- .. and a time without one.
+-- A time without a restriction.
 abbrev pub unlimitedTime : TimeForm → TimeType
 unlimitedTime f = record { form = f; hour24 = true }
 
--- A type that is given by its settings and not by a name.
+-- A type that is given by its settings and not by the name of a useful time type (34 bis.4).
 abbrev pub listed : Parts → «Type»
 listed p = «Type».Listed p
 
--- "The names DATE, TIME-OF-DAY and DATE-TIME may stand for their settings (34 bis.4): YMD with Year=Basic, ..
+-- "The names DATE, TIME-OF-DAY and DATE-TIME may stand for their settings (34 bis.4): YMD with Year=Basic".
 abbrev pub ymdBasic : DateType
 ymdBasic = unlimitedDate DateForm.YMD (Years.Plain (record { basic = true; proleptic = false }))
 
--- .. HMS with L, and both together."
+-- "The names .. may stand for their settings (34 bis.4): .. HMS with L"; DATE-TIME stands for "both together".
 abbrev pub hmsLocal : TimeType
 hmsLocal = unlimitedTime (record { clock = ClockForm.HMS; digits = 0; zone = ZoneForm.L })
 
@@ -57,13 +57,13 @@ TIME-OF-DAY = «Type».TimeOfDay true
 abbrev pub DATE-TIME : «Type»
 DATE-TIME = «Type».DateTime Window.Every true
 
--- Whether the value has a date, ..
+-- Whether the value has a date.
 abbrev pub hasDate : Parts → Bool
 hasDate (Parts.Date d) = true
 hasDate (Parts.Time t) = false
 hasDate (Parts.DateTime d t) = true
 
--- .. and whether it has a time.
+-- Whether the value has a time.
 abbrev pub hasTime : Parts → Bool
 hasTime (Parts.Date d) = false
 hasTime (Parts.Time t) = true
@@ -78,15 +78,15 @@ everyYear (Window.Within lowest highest) = false
 unfoldable pub placed : Limits → Bool → Bool → Bool
 placed limits date time = (everyYear (limits .window) || date) && (limits .hour24 || time)
 
--- A date with this lowest and highest year, ..
+-- A date with this lowest and highest year.
 abbrev pub withWindow : Window → DateType → DateType
 withWindow w d = record { form = d .form; years = d .years; window = w }
 
--- .. a time with or without hour 24, ..
+-- A time with or without hour 24.
 abbrev pub withHour24 : Bool → TimeType → TimeType
 withHour24 h t = record { form = t .form; hour24 = h }
 
--- .. and settings with the restrictions of these limits, and no other.
+-- Settings with the restrictions of these limits, and no other.
 abbrev pub restricted : Limits → Parts → Parts
 restricted limits (Parts.Date d) = Parts.Date (withWindow (limits .window) d)
 restricted limits (Parts.Time t) = Parts.Time (withHour24 (limits .hour24) t)
@@ -99,7 +99,7 @@ partsOf («Type».Date w) = Parts.Date (withWindow w ymdBasic)
 partsOf («Type».TimeOfDay h) = Parts.Time (withHour24 h hmsLocal)
 partsOf («Type».DateTime w h) = Parts.DateTime (withWindow w ymdBasic) (withHour24 h hmsLocal)
 
--- Its name, or that its settings are listed: what decides the tag.
+-- A type's name, or that its settings are listed: what decides the tag.
 abbrev pub nameOf : «Type» → Name
 nameOf («Type».Listed p) = Name.Listed
 nameOf («Type».Date w) = Name.Date
@@ -117,11 +117,11 @@ carrying limits («Type».DateTime w h) = «Type».DateTime (limits .window) (li
 unfoldable pub limitedTo : Limits → «Type» → TypeRead
 limitedTo limits t = cond (placed limits (hasDate (partsOf t)) (hasTime (partsOf t))) (TypeRead.«Type» (carrying limits t)) TypeRead.Unreadable
 
--- "A type may carry two restrictions": none of them, ..
+-- "A type may carry two restrictions": neither of them.
 abbrev pub noLimits : Limits
 noLimits = record { window = Window.Every; hour24 = true }
 
--- .. and those that a type carries.
+-- "A type may carry two restrictions": those that a type carries.
 abbrev pub limitsOf : Parts → Limits
 limitsOf (Parts.Date d) = record { window = d .window; hour24 = true }
 limitsOf (Parts.Time t) = record { window = Window.Every; hour24 = t .hour24 }

@@ -8,17 +8,19 @@ use texts::Form;
 use texts::TimeForm;
 use texts::ZoneForm;
 
-// The Year settings that a type names, of one row: those without a sign, or those with one.
+// Which of the Year settings without a sign a type names.
 pub struct PlainYears {
     pub basic: bool,
     pub proleptic: bool,
 }
 
+// Which of the Year settings with a sign a type names.
 pub struct SignedYears {
     pub negative: bool,
     pub five: bool,
 }
 
+// The Year settings that a type names, of one row.
 pub enum Years {
     Plain(PlainYears),
     Signed(SignedYears),
@@ -30,26 +32,29 @@ pub enum Window {
     Within(Year, Year),
 }
 
-// What a type says of its dates, and of its times: whether hour 24 is among them.
+// What a type says of its dates: their form, their Year settings, and the lowest and the highest year.
 pub struct DateType {
     pub form: DateForm,
     pub years: Years,
     pub window: Window,
 }
 
+// What a type says of its times: their form, and whether hour 24 is allowed.
 pub struct TimeType {
     pub form: TimeForm,
     pub hour24: bool,
 }
 
-// A restriction stands beside what it restricts, and so never without its place.
+// What a type says of its dates, of its times, or of both. So only a type with a date has a window of years, and only a
+// type with a time says whether hour 24 is allowed.
 pub enum Parts {
     Date(DateType),
     Time(TimeType),
     DateTime(DateType, TimeType),
 }
 
-// A type description: its settings are listed, or a name stands for them and there are its restrictions alone.
+// A type description: its settings are listed, or it is a useful time type (X.680 34 bis.4), DATE, TIME-OF-DAY or
+// DATE-TIME, of which only the restrictions are kept: the window of years, and whether hour 24 is allowed.
 pub enum Type {
     Listed(Parts),
     Date(Window),
@@ -57,7 +62,7 @@ pub enum Type {
     DateTime(Window, bool),
 }
 
-// The name that stands for the settings, or that they are listed. The DER tag goes by it.
+// Which useful time type a type is, or that its settings are listed. The DER tag goes by it.
 pub enum Name {
     Listed,
     Date,
@@ -65,8 +70,8 @@ pub enum Name {
     DateTime,
 }
 
-// The restrictions that a type may carry, given beside its text: the lowest and the highest year, and whether
-// hour 24 is among its times.
+// The restrictions that a type may carry, given beside its text: the lowest and the highest year, and whether hour 24 is
+// allowed.
 pub struct Limits {
     pub window: Window,
     pub hour24: bool,
@@ -138,7 +143,7 @@ fn has_time(parts: Parts) -> bool
     }
 }
 
-// The same date with this lowest and highest year.
+// A date with this lowest and highest year, in place of its own.
 fn with_window(window: Window, date: DateType) -> DateType
     ensures { λ r. ⌜ r ≡ withWindow window date ⌝ }
 {
@@ -151,7 +156,7 @@ fn with_window(window: Window, date: DateType) -> DateType
     }
 }
 
-// The same time with or without hour 24.
+// A time with hour 24 allowed or not, in place of what it had.
 fn with_hour24(hour24: bool, time: TimeType) -> TimeType
     ensures { λ r. ⌜ r ≡ withHour24 hour24 time ⌝ }
 {
@@ -159,7 +164,7 @@ fn with_hour24(hour24: bool, time: TimeType) -> TimeType
     TimeType { form, hour24 }
 }
 
-// The same settings under these limits.
+// Settings with these limits, in place of their own.
 fn restrict(limits: Limits, parts: Parts) -> Parts
     ensures { λ r. ⌜ r ≡ restricted limits parts ⌝ }
 {
@@ -239,7 +244,7 @@ fn digits_of(parts: Parts) -> u32
     }
 }
 
-// The settings that the names stand for: YMD with Year=Basic, and HMS with L.
+// What DATE stands for: YMD with Year=Basic.
 const YMD_BASIC: DateType = DateType {
     form: DateForm::YMD,
     years: Years::Plain(PlainYears {
@@ -249,12 +254,14 @@ const YMD_BASIC: DateType = DateType {
     window: Window::Every,
 };
 
+// The form of what TIME-OF-DAY stands for: HMS with L.
 const HMS_L: TimeForm = TimeForm {
     clock: ClockForm::HMS,
     digits: 0,
     zone: ZoneForm::L,
 };
 
+// What TIME-OF-DAY stands for: HMS with L.
 const HMS_LOCAL: TimeType = TimeType {
     form: HMS_L,
     hour24: true,
@@ -267,7 +274,7 @@ impl Type {
     // Hours, minutes and seconds of local time.
     pub const TIME_OF_DAY: Type = Type::TimeOfDay(true);
 
-    // Both together.
+    // Year, month and day with hours, minutes and seconds of local time.
     pub const DATE_TIME: Type = Type::DateTime(Window::Every, true);
 
     // The type of a date with these settings.
@@ -333,7 +340,7 @@ impl Type {
         }
     }
 
-    // The same type with these limits.
+    // The type with these limits in place of its own, whether or not they have their place.
     fn carry(self, limits: Limits) -> Type
         ensures { λ r. ⌜ r ≡ carrying limits self ⌝ }
     {
@@ -347,7 +354,7 @@ impl Type {
         }
     }
 
-    // The type under these limits, in place of any that it has.
+    // The type with these limits in place of its own, or that it is unreadable where one of them has no place.
     pub fn limited(self, limits: Limits) -> TypeRead
         ensures { λ r. ⌜ r ≡ limitedTo limits self ⌝ }
     {

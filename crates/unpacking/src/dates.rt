@@ -35,7 +35,7 @@ fn year_at(years: Integer) -> Year
     }
 }
 
-// A year that is counted from the lowest of its range.
+// A year that is immediate, near-future or near-past: a number that is counted from the lowest year of its range.
 fn near_year(octets: &[u8], at: Bits, width: Bits, range: u32, lowest: u32) -> IntegerStep
     requires { ⌜ at .count ≤ 200 ⌝ }
     requires { ⌜ (1 ≤ width .count) × (width .count ≤ 32) ⌝ }
@@ -50,7 +50,8 @@ fn near_year(octets: &[u8], at: Bits, width: Bits, range: u32, lowest: u32) -> I
     IntegerStep::Got(Integer::Natural(lowest + number), next)
 }
 
-// A year after its choice.
+// A year after its choice: 0 is immediate (2005 to 2020), 1 near-future (2021 to 2276), 2 near-past (1749 to 2004), and
+// any other number remainder.
 fn chosen_year(octets: &[u8], at: Bits, choice: u32) -> IntegerStep
     requires { ⌜ at .count ≤ 160 ⌝ }
     ensures { λ r. ⌜ seenInteger (now (octets .entry)) r ≡ run (readChoice choice) (rest (now (octets .entry)) at) ⌝ }

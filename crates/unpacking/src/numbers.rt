@@ -91,7 +91,7 @@ fn field(octets: &[u8], at: Bits, width: Bits) -> Step
     Step::Got(((number >> after.count) % power(width.count)) as u32, end)
 }
 
-// A number of a range.
+// A constrained whole number: one of a range, counted from its lowest.
 pub(crate) fn ranged(octets: &[u8], at: Bits, width: Bits, range: u32) -> Step
     requires { ⌜ at .count ≤ 200 ⌝ }
     requires { ⌜ (1 ≤ width .count) × (width .count ≤ 32) ⌝ }
@@ -122,7 +122,8 @@ fn signed(number: u32, width: Bits) -> Integer
     Integer::Negative((power(width.count) - number) as u32)
 }
 
-// A free integer: its length, 1 to 4, each of which has its width, and then its bits.
+// An unconstrained whole number, or free integer: its length, 1 to 4, each of which has its width, and then its
+// bits.
 pub(crate) fn free(octets: &[u8], at: Bits) -> IntegerStep
     requires { ⌜ at .count ≤ 160 ⌝ }
     ensures { λ r. ⌜ seenInteger (now (octets .entry)) r ≡ run aFree (rest (now (octets .entry)) at) ⌝ }

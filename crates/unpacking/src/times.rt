@@ -74,7 +74,8 @@ fn clock(octets: &[u8], at: Bits, form: ClockForm) -> ClockStep
     after_hours(octets, next, hours, form)
 }
 
-// The number of a fraction after its first bit: of a range, or any other that is not negative.
+// The number of a fraction after its first bit: a constrained whole number up to 999, or an unconstrained one that is
+// not negative.
 fn extended(octets: &[u8], at: Bits, bit: u32) -> Step
     requires { ⌜ at .count ≤ 150 ⌝ }
     ensures { λ r. ⌜ seen (now (octets .entry)) r ≡ run (readExtended bit) (rest (now (octets .entry)) at) ⌝ }

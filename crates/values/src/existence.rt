@@ -8,7 +8,7 @@ use texts::Value;
 use texts::Zone;
 use texts::has_digits;
 
-// The hours of a clock. Of its fields, one that it does not show is 0.
+// The hours of a clock.
 pub(crate) fn hours(clock: Clock) -> u32
     ensures { λ r. ⌜ r ≡ hoursOf clock ⌝ }
 {
@@ -19,7 +19,7 @@ pub(crate) fn hours(clock: Clock) -> u32
     }
 }
 
-// The minutes.
+// The minutes of a clock, 0 where it does not show them.
 pub(crate) fn minutes(clock: Clock) -> u32
     ensures { λ r. ⌜ r ≡ minutesOf clock ⌝ }
 {
@@ -30,7 +30,7 @@ pub(crate) fn minutes(clock: Clock) -> u32
     }
 }
 
-// The seconds.
+// The seconds of a clock, 0 where it does not show them.
 pub(crate) fn seconds(clock: Clock) -> u32
     ensures { λ r. ⌜ r ≡ secondsOf clock ⌝ }
 {

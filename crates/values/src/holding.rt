@@ -111,7 +111,7 @@ fn within(lowest: Year, highest: Year, year: Year) -> bool
     lowest.at_most(year) && year.at_most(highest)
 }
 
-// The same, where a type names the Year setting of that range.
+// Whether a type names a Year setting, and a year lies in the range of that setting.
 fn named(name: bool, lowest: i32, highest: i32, year: Year) -> bool
     ensures { λ r. ⌜ r ≡ name && between lowest highest (astronomicalOf year) ⌝ }
 {

@@ -1,6 +1,5 @@
-// What a program that deals in ASN.1 dates and times needs between a type and a value: types, values and their texts,
-// which values exist, which a type holds, and the answers and lent room of every entry point. The parts stand in
-// crates of their own, and all of them are passed on here; a type's text is read by `settings`.
+// Values under types: which values exist, which a type holds, what a text gives, and the canonical text of a value in
+// lent room. The types, values, texts and answers that these deal in are passed on from their own crates.
 pub mod admission;
 pub mod existence;
 pub mod holding;

@@ -22,7 +22,8 @@ pub fn deliver_text(value: Value, bits: Bits, room: &mut [u8]) -> Outcome
     deliver(&buffer[..length], bits, room)
 }
 
-// The same, where there is such a value; else it refuses.
+// Puts the text of a value at the front of the room, and reports the bits of the encoding that it was read from; or
+// refuses where there is no such value, or the room is shorter than the text.
 pub fn write_text(value: Value, bits: Bits, room: &mut [u8]) -> Outcome
     ensures { λ r. ⌜ r ≡ outcomeOf (written bits value) (now (room .entry)) ⌝ }
     ensures { λ _. ⌜ now (room .exit) ≡ roomOf (written bits value) (now (room .entry)) ⌝ }

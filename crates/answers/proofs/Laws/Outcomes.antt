@@ -37,11 +37,11 @@ refusal-back Refusal.Membership = refl
 refusal-back Refusal.Encoding = refl
 refusal-back Refusal.Room = refl
 
--- Two refusals of one number are one, ..
+-- Two refusals of one number are one.
 pub one-number : (a b : Refusal) → numberOf a ≡ numberOf b → a ≡ b
 one-number = by-number numberOf refusalAt refusal-back
 
--- .. and their numbers are 1 to 7.
+-- The numbers of refusals are 1 to 7.
 pub number-range : (why : Refusal) → (1 ≤ numberOf why) × (numberOf why ≤ 7)
 number-range Refusal.Settings = omega arith
 number-range Refusal.Rows = omega arith
@@ -93,7 +93,7 @@ module _ (result room : List ℕ) (bits : Bits) (h : length result ≤ length ro
   pub rest-unchanged : drop (length result) (roomOf (done result bits) room) ≡ drop (length result) room
   rest-unchanged = ap (drop (length result)) (enough result room bits h .1) ∙ drop-append-seam result (drop (length result) room)
 
--- So an outcome is that of a success or that of a refusal, whatever the answer and the room.
+-- An outcome is that of a success or that of a refusal, whatever the answer and the room.
 pub data Told (answer : Answer) (room : List ℕ) : Type 0 where
   given : (result : List ℕ) (bits : Bits) → answer ≡ done result bits → length result ≤ length room
       → outcomeOf answer room ≡ success result bits → Told answer room

@@ -130,7 +130,7 @@ grows =
     ∙ ap (λ (k : ℕ). subℕ k (146097 * m)) (days-step n)
     ∙ sym ((λ i. days-at n m i +ℤ pos (cond (leap-at (n + 1) m i) 366 365)) ∙ Z.add-pos (daysOf n) (146097 * m) (cond (leapNumber (n + 1)) 366 365)))
 
--- The period over the naturals ..
+-- The period over the naturals: 400 k years on there are 146097 k days more, and the years are leap alike.
 module _ (n k : ℕ) where
   whole : (x y z : ℕ) → y ≤ 365 * n + x → 365 * (n + 400 * k) + (100 * k + x) - (4 * k + y) + (k + z) ≡ 365 * n + x - y + z + 146097 * k
   whole x y z h = omega arith
@@ -151,7 +151,7 @@ module _ (n k : ℕ) where
       let period : (n + 400 * k) % 400 ≡ n % 400 = omega arith in
       rw (four, hundred, period)
 
--- .. and over every year: 400 k years on, the years are leap alike.
+-- 400 k years on, the years are leap alike, negative years too.
 pub leap-period : (y : ℤ) (k : ℕ) → leapOf (y +ℤ pos (400 * k)) ≡ leapOf y
 leap-period y k =
     every-year (λ (y : ℤ). leapOf (y +ℤ pos (400 * k)) ≡ leapOf y)

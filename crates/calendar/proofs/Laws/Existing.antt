@@ -28,7 +28,7 @@ up-to : (highest x : ℕ) → From1 highest x → upTo highest x ≡ true
 unfolding upTo
 up-to highest x h = rw (le-leb 1 x (h .0), le-leb x highest (h .1))
 
--- A date that exists has such fields, ..
+-- Each field of a date that exists lies from 1 to its highest number.
 pub date-existing : (date : Date) → existsOf date ≡ true → Existing date
 date-existing (Date.Y y) e = tt
 date-existing (Date.YM y month) e = up-to-true 12 month e
@@ -39,7 +39,7 @@ date-existing (Date.YWD y week weekday) e =
     let p = both (upTo (weeksOf (astronomicalOf y)) week) (upTo 7 weekday) e in
     (up-to-true (weeksOf (astronomicalOf y)) week (p .0), up-to-true 7 weekday (p .1))
 
--- .. and every date that has them exists.
+-- A date exists where each of its fields lies from 1 to its highest number.
 pub existing-date : (date : Date) → Existing date → existsOf date ≡ true
 existing-date (Date.Y y) h = refl
 existing-date (Date.YM y month) h = up-to 12 month h

@@ -58,7 +58,7 @@ At leap k days = getD (cond leap leapRow commonRow) k 0 ≡ days
 
 -- The length of each month in every year, in numbers: a table whose twelve lengths add up, but in another order, is refused.
 module _ (y : ℤ) where
-  -- Months 1, 3, 5, 7, 8, 10 and 12 have 31 days, ..
+  -- Months 1, 3, 5, 7, 8, 10 and 12 have 31 days.
   pub thirty-one-days :
       (monthLengthOf y 1 ≡ 31) × (monthLengthOf y 3 ≡ 31) × (monthLengthOf y 5 ≡ 31) × (monthLengthOf y 7 ≡ 31) ×
       (monthLengthOf y 8 ≡ 31) × (monthLengthOf y 10 ≡ 31) × (monthLengthOf y 12 ≡ 31)
@@ -68,7 +68,7 @@ module _ (y : ℤ) where
     go true = (refl, refl, refl, refl, refl, refl, refl)
     go false = (refl, refl, refl, refl, refl, refl, refl)
 
-  -- .. months 4, 6, 9 and 11 have 30, ..
+  -- Months 4, 6, 9 and 11 have 30 days.
   pub thirty-days : (monthLengthOf y 4 ≡ 30) × (monthLengthOf y 6 ≡ 30) × (monthLengthOf y 9 ≡ 30) × (monthLengthOf y 11 ≡ 30)
   unfolding monthLengthOf
   thirty-days = go (leapOf y) where
@@ -76,7 +76,7 @@ module _ (y : ℤ) where
     go true = (refl, refl, refl, refl)
     go false = (refl, refl, refl, refl)
 
-  -- .. and month 2 has 29 in a leap year and 28 in any other.
+  -- Month 2 has 29 days in a leap year and 28 in any other.
   pub february-days : monthLengthOf y 2 ≡ cond (leapOf y) 29 28
   unfolding monthLengthOf
   february-days = go (leapOf y) where

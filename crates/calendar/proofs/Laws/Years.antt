@@ -76,15 +76,15 @@ pub distance-back : (y : ℤ) → atDistance (distanceOf y) ≡ y
 distance-back (pos k) = refl
 distance-back (negsuc k) = refl
 
--- The years from 0000 on lie since it, so that 0000 is not before itself, ..
+-- The years from 0000 on lie since it, so that 0000 is not before itself.
 pub distance-since : (k : ℕ) → distanceOf (pos k) ≡ Distance.Since k
 distance-since k = refl
 
--- .. and the others before it.
+-- The years below 0000 lie before it.
 pub distance-before : (k : ℕ) → distanceOf (negsuc k) ≡ Distance.Before (suc k)
 distance-before k = refl
 
--- 32 bits hold the years whose magnitude, `mag`, is below 2147483648 (of -(k + 1) it is k), ..
+-- 32 bits hold the years whose magnitude, `mag`, is below 2147483648, and no others; the magnitude of -(k + 1) is k.
 pub in32-within : (y : ℤ) → mag y < 2147483648 → in32 y ≡ Astronomical.Within y
 unfolding in32
 in32-within (pos k) h = simp (le-leb k 2147483647 (omega arith))
@@ -95,7 +95,7 @@ unfolding in32
 in32-outside (pos k) h = simp (lt-leb k 2147483647 (omega arith))
 in32-outside (negsuc k) h = simp (lt-leb k 2147483647 (omega arith))
 
--- .. which are those of the numbers 2147483952 to 6442451247
+-- The years of a magnitude below 2147483648 are those of the numbers 2147483952 to 6442451247.
 module _ (year : Year) where
   pub size-within : 2147483952 ≤ year .number → year .number ≤ 6442451247 → mag (astronomicalOf year) < 2147483648
   size-within l h = by-sign year (λ (y : ℤ). mag y < 2147483648) (λ k e. omega arith) (λ k e. omega arith)

@@ -1,4 +1,4 @@
--- Checked elements, with the octets that the reference gives: some of each tag, written and read; spellings that are read besides; and octets
+-- Checked elements have the octets that the reference gives: some of each tag, written and read; spellings that are read besides; and octets
 -- that give nothing. Only a table refuses a tag or a length that writer and reader share.
 use mathlib.Core.Path.{_≡_, refl}
 use mathlib.Core.Bool.{true, false}
@@ -30,23 +30,23 @@ use Rattle.types.specs.declared.types.Name.{Name}
 use Rattle.der_elements.specs.Elements.{contentsOf, element, elementOf, without}
 use Rattle.der_elements.specs.Readings.{allDigits, digitsOnly, readElement, separated}
 
--- Local time so far ahead of UTC, and so far behind it.
+-- Local time is so far ahead of UTC, or so far behind it.
 abbrev ahead : ℕ → ℕ → Zone
 ahead hours minutes = Zone.LD (record { behind = false; hours = hours; minutes = minutes })
 
 abbrev behind : ℕ → ℕ → Zone
 behind hours minutes = Zone.LD (record { behind = true; hours = hours; minutes = minutes })
 
--- A time with the digits and the number of its fraction.
+-- A time has the digits and the number of its fraction.
 abbrev at : Clock → ℕ → ℕ → Zone → Time
 at clock digits fraction zone = record { clock = clock; digits = digits; fraction = fraction; zone = zone }
 
--- The forms of the three names.
+-- The form of TIME-OF-DAY, a useful time type (X.680 34 bis.4).
 abbrev localTime : TimeForm
 localTime = record { clock = ClockForm.HMS; digits = 0; zone = ZoneForm.L }
 
--- a name and a value with its element; with one that is read and not written; and octets that give nothing at the form of DATE, of
--- TIME-OF-DAY or of DATE-TIME
+-- A row has a name and a value with its element, or with one that is read and not written, or octets that give nothing at the form of DATE, of
+-- TIME-OF-DAY or of DATE-TIME, which are the useful time types (X.680 34 bis.4).
 data Row : Type 0 where
   date : Name → Date → String → Row
   time : Name → Clock → ℕ → ℕ → Zone → String → Row
@@ -63,7 +63,7 @@ data Coding : Type 0 where
   coding : List ℕ → Option Value → Coding
   reading : Option Value → Coding
 
--- What rows say, ..
+-- What rows say.
 said : List Row → List Coding
 unfolding hex
 said [] = []
@@ -77,9 +77,10 @@ said (noDate name octets ∷ l) = reading none ∷ said l
 said (noTime name octets ∷ l) = reading none ∷ said l
 said (noBoth name octets ∷ l) = reading none ∷ said l
 
--- .. and what the definitions make of them.
+-- What the definitions make of them.
 reads : Name → Form → String → Option Value
-unfolding hex astronomicalOf yearAt eqList getWeek getAfter getDate getDigits getField leading getValue readUpTo getAfterHours getClock getFraction getMinutes getDifference getZone getTime sizeIn yearDigits signedFits getSigned getYear allDigits digitsOnly separated readElement
+unfolding hex astronomicalOf yearAt eqList getWeek getAfter getDate getDigits getField leading getValue readUpTo getAfterHours getClock
+    getFraction getMinutes getDifference getZone getTime sizeIn yearDigits signedFits getSigned getYear allDigits digitsOnly separated readElement
 reads name form octets = readElement name form (hex octets)
 
 makes : Name → Value → String → Coding

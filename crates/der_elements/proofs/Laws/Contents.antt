@@ -37,7 +37,7 @@ use Rattle.der_elements.specs.Readings.{allDigits, separated}
 
 -- ---- digits are kept
 
--- no digit is a separator
+-- No digit is a separator.
 pub digit-kept : (name : Name) (c : ℕ) → 48 ≤ c → c ≤ 57 → omits name c ≡ false
 digit-kept Name.Listed c h k = refl
 digit-kept Name.Date c h k = ne-eqb c hyphen (λ e. omega arith)
@@ -55,7 +55,7 @@ unfolding allDigits putDigits
 all-digits zero n r = refl
 all-digits (suc w) n r = rw (append-assoc, all-digits w (n / 10) ((48 + n % 10) ∷ r), is-digit (48 + n % 10) (omega arith) (omega arith))
 
--- no text is longer without some of its octets
+-- No text is longer without some of its octets.
 pub without-most : (p : ℕ → Bool) (l : List ℕ) → length (without p l) ≤ length l
 unfolding without
 without-most p [] = omega arith
@@ -70,7 +70,7 @@ unfolding without
 without-none [] = refl
 without-none (c ∷ l) = ap (λ (r : List ℕ). c ∷ r) (without-none l)
 
--- One octet, ..
+-- An octet is omitted, or it is the contents.
 module _ (name : Name) (c : ℕ) where
   pub octet-omitted : omits name c ≡ true → contentsOf name (c ∷ []) ≡ []
   unfolding contentsOf without
@@ -80,7 +80,7 @@ module _ (name : Name) (c : ℕ) where
   unfolding contentsOf without
   octet-kept o = rw o
 
--- .. and what is left of a text after so many octets.
+-- The contents of what is left of a text after so many octets are those of its first octet and of the rest.
 module _ (name : Name) (l : List ℕ) (i : ℕ) where
   pub contents-step : i < length l → contentsOf name (drop i l) ≡ contentsOf name (getD l i 0 ∷ []) ++ contentsOf name (drop (i + 1) l)
   unfolding contentsOf without
@@ -91,8 +91,10 @@ module _ (name : Name) (l : List ℕ) (i : ℕ) where
       go true = refl
       go false = refl
 
-  pub contents-count : i < length l → length (contentsOf name (drop i l)) ≡ length (contentsOf name (getD l i 0 ∷ [])) + length (contentsOf name (drop (i + 1) l))
-  contents-count h = ap length (contents-step h) ∙ length-append (contentsOf name (getD l i 0 ∷ [])) (contentsOf name (drop (i + 1) l))
+  pub contents-counted : {n : ℕ} → i < length l → n ≡ length (contentsOf name (getD l i 0 ∷ []))
+      → length (contentsOf name (drop i l)) ≡ n + length (contentsOf name (drop (i + 1) l))
+  contents-counted h e =
+      rw e (ap length (contents-step h) ∙ length-append (contentsOf name (getD l i 0 ∷ [])) (contentsOf name (drop (i + 1) l)))
 
   pub contents-end : length l ≤ i → contentsOf name (drop i l) ≡ []
   unfolding contentsOf without
@@ -107,7 +109,8 @@ abbrev pub fieldsDigits : (w a b d : ℕ) → List ℕ
 fieldsDigits w a b d = putDigits w a ++ (putDigits 2 b ++ putDigits 2 d)
 
 module _ (c w a b d : ℕ) where
-  pub fields-kept : (name : Name) (r : List ℕ) → omits name c ≡ true → without (omits name) (fieldsText c w a b d ++ r) ≡ fieldsDigits w a b d ++ without (omits name) r
+  pub fields-kept : (name : Name) (r : List ℕ) → omits name c ≡ true
+      → without (omits name) (fieldsText c w a b d ++ r) ≡ fieldsDigits w a b d ++ without (omits name) r
   unfolding without
   fields-kept name r o = simp (append-assoc, kept-digits, o)
 
@@ -129,7 +132,7 @@ module _ (c w a b d : ℕ) where
 
 -- ---- dates and times under the three names
 
--- a year from 1582 to 9999 has four digits
+-- A year from 1582 to 9999 has four digits.
 basic-year : (y : ℤ) → inBasic y ≡ true → (n : ℕ) × (yearText y ≡ putDigits 4 n)
 unfolding between yearText
 basic-year (pos n) e = (n, simp (lt-ltb n 10000 (omega (arith, leb-true n 9999 (both (leb 1582 n) (leb n 9999) e .1)))))
@@ -166,7 +169,13 @@ tag-size Name.Date = omega arith
 tag-size Name.TimeOfDay = omega arith
 tag-size Name.DateTime = omega arith
 
--- How long an element is.
-pub element-size : (name : Name) (l : List ℕ) → (length (element name l) ≡ length (tagOf name) + 1 + length l) × (1 ≤ length (tagOf name)) × (length (tagOf name) ≤ 2)
+-- An element is as long as its parts, and its tag has one or two octets.
+pub element-size : (name : Name) (l : List ℕ)
+    → (length (element name l) ≡ length (tagOf name) + 1 + length l) × (1 ≤ length (tagOf name)) × (length (tagOf name) ≤ 2)
 unfolding element
 element-size name l = (simp length-append (omega arith), tag-size name .0, tag-size name .1)
+
+-- The length of an element is counted from its parts.
+pub element-counted : (name : Name) (l : List ℕ) {m n : ℕ} → m ≡ length (tagOf name) → n ≡ length l
+    → (m + 1 + n ≡ length (element name l)) × (m ≤ 2)
+element-counted name l e f = let s = element-size name l in (omega arith, omega arith)

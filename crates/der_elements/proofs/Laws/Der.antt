@@ -43,7 +43,8 @@ use Rattle.encodings.proofs.Laws.Encodings.{admissionAnswer, answerWith, decode
 use Rattle.der_elements.specs.Der.{der, derDecoded, derEncoded, inDer, noBits}
 use Rattle.der_elements.specs.Elements.{contentsOf, element, elementOf, omits, tagOf, without}
 use Rattle.der_elements.specs.Readings.{allDigits, digitsOnly, readContents, readElement}
-use Rattle.der_elements.proofs.Laws.Contents.{date-fields, element-size, fields-all, fields-back, fields-kept, fields-length, fieldsDigits, time-fields, without-most, without-none}
+use Rattle.der_elements.proofs.Laws.Contents.{date-fields, element-size, fieldsDigits, time-fields, without-most, without-none}
+use Rattle.der_elements.proofs.Laws.Contents.{fields-all, fields-back, fields-kept, fields-length}
 
 -- ---- the tag
 
@@ -81,7 +82,7 @@ element-read Name.Date form l h = simp (le-leb (length l) 127 h, le-leb (length 
 element-read Name.TimeOfDay form l h = simp (le-leb (length l) 127 h, le-leb (length l) (length l) (omega arith), take-all (length l) l (omega arith))
 element-read Name.DateTime form l h = simp (le-leb (length l) 127 h, le-leb (length l) (length l) (omega arith), take-all (length l) l (omega arith))
 
--- digits alone
+-- Octets that are all digits are so many digits.
 digits-only : (n : ℕ) (l : List ℕ) → length l ≡ n → allDigits l ≡ true → digitsOnly n l ≡ true
 unfolding digitsOnly
 digits-only n l e a = simp (eq-eqb (length l) n e, a)
@@ -90,6 +91,10 @@ fields-only : (w a b d : ℕ) → digitsOnly (w + 4) (fieldsDigits w a b d) ≡ 
 unfolding allDigits
 fields-only w a b d =
     digits-only (w + 4) (fieldsDigits w a b d) (fields-length 0 w a b d) (rw (← append-nil (fieldsDigits w a b d)) (fields-all 0 w a b d []))
+
+-- The text of a date-time is its date, `T`, and its time.
+abbrev dateTimeText : Date → Time → List ℕ
+dateTimeText d e = putDate d ++ letterT ∷ putTime canonical e
 
 -- The contents of a value that a type holds give what its text does.
 module _ (form : Form) where
@@ -111,8 +116,9 @@ module _ (form : Form) where
       ap (contentsOf Name.TimeOfDay) (q .3 ∙ sym (append-nil _)) ∙ fields-kept colon 2 (q .0) (q .1) (q .2) Name.TimeOfDay [] refl ∙ append-nil _ in
       rw (k, fields-only 2 (q .0) (q .1) (q .2), fields-back colon 2 (q .0) (q .1) (q .2), q .3)
 
-  date-time-contents : (w : Window) (d : Date) (e : Time) → dateForm d ≡ DateForm.YMD → timeForm e ≡ hmsLocal .form → admitsDate (withWindow w ymdBasic) d ≡ true
-      → readContents Name.DateTime form (contentsOf Name.DateTime (putDate d ++ letterT ∷ putTime canonical e)) ≡ ofText (readOf form (putDate d ++ letterT ∷ putTime canonical e))
+  date-time-contents : (w : Window) (d : Date) (e : Time)
+      → dateForm d ≡ DateForm.YMD → timeForm e ≡ hmsLocal .form → admitsDate (withWindow w ymdBasic) d ≡ true
+      → readContents Name.DateTime form (contentsOf Name.DateTime (dateTimeText d e)) ≡ ofText (readOf form (dateTimeText d e))
   unfolding contentsOf without allDigits
   date-time-contents w d e f h a =
       let q = date-fields w d f a in
@@ -121,7 +127,7 @@ module _ (form : Form) where
       let y = fieldsDigits 2 (r .0) (r .1) (r .2) in
       let y-kept : contentsOf Name.DateTime (putTime canonical e) ≡ y =
       ap (contentsOf Name.DateTime) (r .3 ∙ sym (append-nil _)) ∙ fields-kept colon 2 (r .0) (r .1) (r .2) Name.DateTime [] refl ∙ append-nil _ in
-      let k : contentsOf Name.DateTime (putDate d ++ letterT ∷ putTime canonical e) ≡ x ++ y =
+      let k : contentsOf Name.DateTime (dateTimeText d e) ≡ x ++ y =
       ap (λ (l : List ℕ). contentsOf Name.DateTime (l ++ letterT ∷ putTime canonical e)) (q .3)
       ∙ fields-kept hyphen 4 (q .0) (q .1) (q .2) Name.DateTime (letterT ∷ putTime canonical e) refl
       ∙ ap (λ (l : List ℕ). x ++ l) y-kept in
@@ -150,7 +156,8 @@ own-contents form (Ty.DateTime w h) (Value.Date d) f a = absurd (let z : _≡_ {
 own-contents form (Ty.DateTime w h) (Value.Time e) f a = absurd (let z : _≡_ {A = ℕ} 0 1 = cc in omega arith)
 
 -- The element of a value that a type holds gives at every form, also at another than the type's, what the canonical text gives.
-pub element-gives : (t : Ty) (v : Value) → Holds der t v → (form : Form) → readElement (nameOf t) form (elementOf (nameOf t) v) ≡ ofText (readOf form (textOf v))
+pub element-gives : (t : Ty) (v : Value) → Holds der t v → (form : Form)
+    → readElement (nameOf t) form (elementOf (nameOf t) v) ≡ ofText (readOf form (textOf v))
 unfolding elementOf
 element-gives t v h form =
     let i = in-type t v (h .inside) in
@@ -192,7 +199,7 @@ der-admitted = encoded-admitted inDer
 pub der-judged-as : (t : Ty) (v : Value) (answer : Answer) → judgedAs der t v answer ≡ answerWith answer (judged t v)
 der-judged-as = judged-as inDer
 
--- The element that is written into a buffer, to be compared with.
+-- What is written into a buffer, to be compared with, is the element.
 pub own-element : (name : Name) (v : Value) (text room own : List ℕ) (r : Outcome) → existsValue v ≡ true → text ≡ textOf v → 55 ≤ length room
     → r ≡ outcomeOf (done (element name (contentsOf name text)) noBits) room → own ≡ roomOf (done (element name (contentsOf name text)) noBits) room
     → (r .length .count ≤ 55) × (take (r .length .count) own ≡ elementOf name v)

@@ -96,7 +96,8 @@ module _ (form : Form) (v : Value) where
       → (s : Spelling) × (render s v ≡ text) × (readOf form (render s v) ≡ TextRead.Value v s)
   text-only text e = go (readOf form text) refl e
     where
-      go : (r : TextRead) → readOf form text ≡ r → ofText r ≡ some v → (s : Spelling) × (render s v ≡ text) × (readOf form (render s v) ≡ TextRead.Value v s)
+      go : (r : TextRead) → readOf form text ≡ r → ofText r ≡ some v
+          → (s : Spelling) × (render s v ≡ text) × (readOf form (render s v) ≡ TextRead.Value v s)
       go (TextRead.Value w s) r e =
           let q : w ≡ v = cc in
           let p : readOf form text ≡ TextRead.Value v s = r ∙ ap (λ (x : Value). TextRead.Value x s) q in
@@ -104,6 +105,7 @@ module _ (form : Form) (v : Value) where
           (s, sym l, ap (readOf form) (sym l) ∙ p)
       go TextRead.NotOfForm r e = absurd (let z : _≡_ {A = ℕ} 0 1 = cc in omega arith)
 
+  -- Contents that give the value stand for a text of it, and all such contents give it.
   contents-only : (name : Name) (l : List ℕ) → readContents name form l ≡ some v
       → (s : Spelling) × StandsFor name l (render s v) × (readOf form (render s v) ≡ TextRead.Value v s)
   contents-only Name.Listed l e = text-only l e
@@ -119,7 +121,8 @@ module _ (form : Form) (v : Value) where
   contents-all Name.DateTime l s t f = rw (t .0) (ap ofText (ap (readOf form) (sym (t .1)) ∙ f))
 
   length-only : (name : Name) (l : List ℕ) → readLength name form l ≡ some v
-      → (contents : List ℕ) × (rest : List ℕ) × (length contents ≤ 127) × (l ≡ length contents ∷ (contents ++ rest)) × (readContents name form contents ≡ some v)
+      → (contents : List ℕ) × (rest : List ℕ)
+      × (length contents ≤ 127) × (l ≡ length contents ∷ (contents ++ rest)) × (readContents name form contents ≡ some v)
   length-only name [] e = absurd (let z : _≡_ {A = ℕ} 0 1 = cc in omega arith)
   length-only name (n ∷ l) e =
       let p = let-through (leb n 127 && leb n (length l)) _ v e in
@@ -135,9 +138,15 @@ module _ (form : Form) (v : Value) where
   length-all : (name : Name) (contents rest : List ℕ) → length contents ≤ 127 → readContents name form contents ≡ some v
       → readLength name form (length contents ∷ (contents ++ rest)) ≡ some v
   length-all name contents rest h e =
-      rw (le-leb (length contents) 127 h, le-leb (length contents) (length (contents ++ rest)) (let a = length-append contents rest in omega arith), take-append-seam contents rest) e
+      let a = length-append contents rest in
+      rw (
+        le-leb (length contents) 127 h,
+        le-leb (length contents) (length (contents ++ rest)) (omega arith),
+        take-append-seam contents rest,
+      )
+      e
 
-  -- What is read is an element of the value, and something after it; ..
+  -- What is read is an element of the value, and something after it.
   pub der-reads : (name : Name) (octets : List ℕ) → readElement name form octets ≡ some v → (rest : List ℕ) × ReadableElement name form v octets rest
   unfolding readElement element
   der-reads name octets e =
@@ -159,13 +168,14 @@ module _ (form : Form) (v : Value) where
         },
       )
 
-  -- .. and every such element is read.
+  -- Every such element is read.
   pub der-reads-all : (name : Name) (octets rest : List ℕ) → ReadableElement name form v octets rest → readElement name form octets ≡ some v
   unfolding readElement element
   der-reads-all name octets rest r =
       let t : octets ≡ tagOf name ++ length (r .contents) ∷ (r .contents ++ rest) =
       r .stood ∙ append-assoc (tagOf name) (length (r .contents) ∷ r .contents) rest in
-      let f : take (length (tagOf name)) octets ≡ tagOf name = ap (take (length (tagOf name))) t ∙ take-append-seam (tagOf name) _ in
-      let g : drop (length (tagOf name)) octets ≡ length (r .contents) ∷ (r .contents ++ rest) = ap (drop (length (tagOf name))) t ∙ drop-append-seam (tagOf name) _ in
+      let n = length (tagOf name) in
+      let f : take n octets ≡ tagOf name = ap (take n) t ∙ take-append-seam (tagOf name) _ in
+      let g : drop n octets ≡ length (r .contents) ∷ (r .contents ++ rest) = ap (drop n) t ∙ drop-append-seam (tagOf name) _ in
       rw (f, g, equal-test (tagOf name) (tagOf name) refl)
       (length-all name (r .contents) rest (r .short) (contents-all name (r .contents) (r .spelling) (r .text) (r .formed)))

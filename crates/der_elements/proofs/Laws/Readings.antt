@@ -1,4 +1,4 @@
--- Steps of the code that reads an element.
+-- These are steps of the code that reads an element.
 use mathlib.Core.Path.{_≡_, refl, ap, sym, _∙_}
 use mathlib.Core.Bool.{true, false, and-false}
 use mathlib.Core.List.{List, [], _∷_, _++_, append-nil}
@@ -20,13 +20,12 @@ use Rattle.texts.specs.declared.forms.Form.{Form}
 use Rattle.types.specs.declared.types.Name.{Name}
 use Rattle.der_elements.specs.Readings.{allDigits, dated, digitsOnly, readContents, readLength, separated, timed}
 
--- A digit leaves the rest to decide, ..
+-- A digit leaves the rest to decide, and any other octet decides.
 module _ (l : List ℕ) (i : ℕ) (h : i < length l) where
   pub digit-here : 48 ≤ getD l i 0 → getD l i 0 ≤ 57 → allDigits (drop i l) ≡ allDigits (drop (i + 1) l)
   unfolding allDigits
   digit-here a b = rw (add-one, drop-cons l i 0 h, le-leb 48 (getD l i 0) a, le-leb (getD l i 0) 57 b)
 
-  -- .. and any other octet decides.
   pub below-digits : getD l i 0 < 48 → allDigits (drop i l) ≡ false
   unfolding allDigits
   below-digits a = rw (drop-cons l i 0 h, lt-leb 48 (getD l i 0) a)
@@ -58,7 +57,7 @@ separated-size c w l h =
 pub rest-cut : (n : ℕ) (l : List ℕ) → n ≤ length l → take (length l - n) (drop n l) ≡ drop n l
 rest-cut n l h = take-all (length l - n) (drop n l) (let e = length-drop n l in omega arith)
 
--- The parts of the digits, as they are cut, ..
+-- The parts of the digits have these lengths as they are cut.
 module _ (w : ℕ) (d : List ℕ) (h : w + 2 ≤ length d) where
   pub first-size : length (take w d) ≡ w
   first-size = length-take-le w d (omega arith)
@@ -72,7 +71,7 @@ module _ (w : ℕ) (d : List ℕ) (h : w + 2 ≤ length d) where
   third-part : take (length d - (w + 2)) (drop (w + 2) d) ≡ drop 2 (drop w d)
   third-part = rest-cut (w + 2) d h ∙ sym (drop-drop 2 w d)
 
-  -- .. and stored one after another.
+  -- Stored one after another, with the separators, they are the text.
   pub put-separated : (c : ℕ) {l m n o : List ℕ} {at p q r : ℕ} → StoredText l m at (take w d) p
       → StoredText (set m p c) n (p + 1) (take (w + 2 - w) (drop w d)) q → StoredText (set n q c) o (q + 1) (take (length d - (w + 2)) (drop (w + 2) d)) r
       → StoredText l o at (separated c w d) r
@@ -81,12 +80,11 @@ module _ (w : ℕ) (d : List ℕ) (h : w + 2 ≤ length d) where
       let two : w + 2 - w ≡ 2 = omega arith in
       put-then f (put-octet (put-then (rw two at g) (put-octet (rw third-part at k))))
 
--- Each part has its place in a room that has one for the digits and two separators: the first, ..
+-- Each part has its place in a room that has one for the digits and two separators.
 module _ (w : ℕ) (d : List ℕ) (h : w + 2 ≤ length d) {l : List ℕ} {at : ℕ} (fits : at + (length d + 2) ≤ length l) where
   pub first-put : {m : List ℕ} {p : ℕ} → (p ≡ placeAfter l at (take w d)) × (m ≡ roomAfter l at (take w d)) → StoredText l m at (take w d) p
   first-put e = put-there e (let z = first-size w d h in omega arith)
 
-  -- .. the second, ..
   module _ (c : ℕ) {m n : List ℕ} {p q : ℕ} (f : StoredText l m at (take w d) p) (k : length m ≡ length l) where
     pub second-put : (q ≡ placeAfter (set m p c) (p + 1) (take (w + 2 - w) (drop w d))) × (n ≡ roomAfter (set m p c) (p + 1) (take (w + 2 - w) (drop w d)))
         → StoredText (set m p c) n (p + 1) (take (w + 2 - w) (drop w d)) q
@@ -95,7 +93,6 @@ module _ (w : ℕ) (d : List ℕ) (h : w + 2 ≤ length d) {l : List ℕ} {at : 
         let y = second-size w d h in
         put-there e (simp length-set (omega (arith, f .end)))
 
-    -- .. and the third.
     pub third-put : {o : List ℕ} {r : ℕ} → StoredText (set m p c) n (p + 1) (take (w + 2 - w) (drop w d)) q → length n ≡ length (set m p c)
         → (r ≡ placeAfter (set n q c) (q + 1) (take (length d - (w + 2)) (drop (w + 2) d)))
         × (o ≡ roomAfter (set n q c) (q + 1) (take (length d - (w + 2)) (drop (w + 2) d)))
@@ -107,17 +104,17 @@ module _ (w : ℕ) (d : List ℕ) (h : w + 2 ≤ length d) {l : List ℕ} {at : 
         let i : length n ≡ length m = simp length-set at j in
         put-there e (simp length-set (omega (arith, f .end, g .end)))
 
--- A text that was stored at the front is the front, ..
+-- A text that was stored at the front is the front.
 pub front-stored : {l m t : List ℕ} {r : ℕ} → StoredText l m 0 t r → length t ≤ length l → take r m ≡ t
 front-stored {l} {m} {t} {r} p h =
     ap (take r) (p .text ∙ sets-front l t h) ∙ take-at t (drop (length t) l) r (let e : r ≡ 0 + length t = p .end in omega arith)
 
--- .. and all of the buffer, where it fills it.
+-- It is all of the buffer, where it fills it.
 pub all-stored : {l m t : List ℕ} {r : ℕ} → StoredText l m 0 t r → length t ≡ length l → m ≡ t
 all-stored {l} {m} {t} {r} p h =
     p .text ∙ sets-front l t (omega arith) ∙ rw (drop-of-length-le l (let z : length l ≤ length t = omega arith in z), append-nil)
 
--- The text of a date-time: its date, `T`, and its time.
+-- The text of a date-time is stored as its date, `T`, and its time.
 module _ (d : List ℕ) (e : length d ≡ 14) where
   pub date-size : length (dated (take 8 d)) ≡ 10
   date-size = let a = length-take-le 8 d (omega arith) in separated-size hyphen 4 (take 8 d) (omega arith) ∙ omega arith
@@ -129,7 +126,8 @@ module _ (d : List ℕ) (e : length d ≡ 14) where
       → StoredText (set m p letterT) n (p + 1) (timed (take (length d - 8) (drop 8 d))) r → n ≡ dated (take 8 d) ++ letterT ∷ timed (drop 8 d)
   date-time-stored {l} {m} {n} {p} {r} h f g =
       let q : take (length d - 8) (drop 8 d) ≡ drop 8 d = rest-cut 8 d (omega arith) in
-      let t : length (timed (drop 8 d)) ≡ 8 = separated-size colon 2 (drop 8 d) (let a = length-drop 8 d in omega arith) ∙ (let a = length-drop 8 d in omega arith) in
+      let a = length-drop 8 d in
+      let t : length (timed (drop 8 d)) ≡ 8 = separated-size colon 2 (drop 8 d) (omega arith) ∙ omega arith in
       all-stored (put-then f (put-octet (rw q at g)))
       (length-append (dated (take 8 d)) (letterT ∷ timed (drop 8 d)) ∙ let a = date-size in omega arith)
 

@@ -1,4 +1,5 @@
--- Checked fields, with the octets that the reference gives, written and read: numbers of the ranges of Table 2's fields, and free integers.
+-- Checked fields, with the octets that the reference gives, written and read: constrained whole numbers, of the ranges of Table 2's fields, and
+-- unconstrained ones, which are free integers.
 -- Only a table refuses what writer and reader share, such as an integer counted from the lowest, or a length in bits.
 use mathlib.Core.Path.{_≡_, refl}
 use mathlib.Core.Bool.{Bool}

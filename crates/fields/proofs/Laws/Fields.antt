@@ -80,7 +80,7 @@ unfolding bitCount
 count-append [] gs = omega arith
 count-append (f ∷ fs) gs = ap (λ (n : ℕ). fieldWidth f + n) (count-append fs gs) ∙ sym (add-assoc (fieldWidth f) (bitCount fs) (bitCount gs))
 
--- A free integer takes 16 to 40 bits.
+-- A free integer (an unconstrained whole number) takes 16 to 40 bits.
 pub free-width : (z : ℤ) → (16 ≤ fieldWidth (Free z)) × (fieldWidth (Free z) ≤ 40)
 unfolding fieldWidth
 free-width z = (omega (arith, fewest-range z .0), omega (arith, fewest-range z .1))
@@ -106,7 +106,7 @@ read-bits-only w s v t = go (leb w (length s)) refl
         (subst (λ (k : ℕ). k < 2 ^ w) q (number-lt w s), sym (ap₂ (λ (a b : BitString). a ++ b) n (sym p) ∙ take-append-drop w s))
     go false b e = nothing-not e
 
--- ---- a number of a range
+-- ---- a number of a range (a constrained whole number)
 
 pub read-ranged : (r v : ℕ) (s : BitString) → v < r → readRanged r (bitsOf (width r) v ++ s) ≡ found v s
 unfolding readRanged
@@ -181,6 +181,7 @@ read-free-only s z t = first (readBits 8 s) refl
     low n u q false l e = nothing-not e
 
     first : (g : Found Bool ℕ) → readBits 8 s ≡ g
-        → onward g (λ n u. cond (leb 1 n) (cond (leb n 4) (onward (readBits (8 * n) u) (λ k u. found (fromTwos n k) u)) nothing) nothing) ≡ found z t → InOctets s z t
+        → onward g (λ n u. cond (leb 1 n) (cond (leb n 4) (onward (readBits (8 * n) u) (λ k u. found (fromTwos n k) u)) nothing) nothing) ≡ found z t
+        → InOctets s z t
     first nothing q e = nothing-not e
     first (found n u) q e = low n u q (leb 1 n) refl e

@@ -80,7 +80,7 @@ module _ {A : Type 0} where
 
 -- ---- from the bits of fields that are well spelled, a reading is what it is over the fields
 
--- An integer that is well spelled stands in 1 to 4 octets that hold it, and so on.
+-- An integer that is well spelled stands in 1 to 4 octets that hold it, and the fields after it are well spelled.
 pub well-integer : (n : ℕ) (z : ℤ) (ws : List SpelledField) → wellSpelled (Integer n z ∷ ws) ≡ true
     → (1 ≤ n) × (n ≤ 4) × (within n z ≡ true) × (wellSpelled ws ≡ true)
 unfolding wellSpelled
@@ -125,7 +125,7 @@ module _ {A : Type 0} where
           simp (append-assoc, read-free n z (spelledBits ws ++ s) (w .0) (w .1) (w .2), ih (w .3) e)
   run-spelled refuse ws s a g e = nothing-not e
 
--- Bits begin with fields that are well spelled and drive the reading to what it gives.
+-- That bits begin with fields that are well spelled and drive the reading to what it gives.
 pub record Spells {A : Type 0} (t : Reading A) (s : BitString) (a : A) (rest : BitString) : Type 0 where
   pub spelled : List SpelledField
   pub well : wellSpelled spelled ≡ true
@@ -133,7 +133,7 @@ pub record Spells {A : Type 0} (t : Reading A) (s : BitString) (a : A) (rest : B
   pub stood : s ≡ spelledBits spelled ++ rest
 
 module _ {A : Type 0} where
-  -- And back: whatever bits are read are such fields.
+  -- Bits that are read begin with fields that are well spelled and drive the reading to what it gives.
   pub run-only : (t : Reading A) (s : BitString) (a : A) (rest : BitString) → run t s ≡ found a rest → Spells t s a rest
   unfolding over run spelledBits wellSpelled spelledFields
   run-only (give b) s a rest e = record { spelled = []; well = refl; drives = ap (λ c. found c []) (found-value e); stood = found-rest e }

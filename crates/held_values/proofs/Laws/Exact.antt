@@ -143,13 +143,13 @@ admitted-tests p v (date {t} {d} h) = year-test t d h
 admitted-tests p v (time {t} {u} h) = hour-test t u h
 admitted-tests p v (date-time {s} {t} {d} {u} h k) = simp (year-test s d h, hour-test t u k)
 
--- A year that is held has no more digits than texts have, ..
+-- A year that a type admits has no more digits than texts have.
 short-year : (p : Parts) (v : Value) → Admitted p v → ShortYear longestYear v
 short-year p v (date {t} {d} h) = date-short t d (year-test t d h)
 short-year p v (time h) = tt
 short-year p v (date-time {s} {t} {d} h k) = date-short s d (year-test s d h)
 
--- .. so the canonical text is of the value's form alone.
+-- The canonical text of a value that exists, with no more digits in its year than texts have, is of the value's form alone.
 form-shown : (t : Ty) (v : Value) → existsValue v ≡ true → ShortYear longestYear v → textNumber (readOf (formOf t) (textOf v)) ≡ 0 → valueForm v ≡ formOf t
 form-shown t v x y e = go (sameForm (valueForm v) (formOf t)) refl
   where
@@ -163,14 +163,14 @@ form-shown t v x y e = go (sameForm (valueForm v) (formOf t)) refl
 -- ---- the law
 
 module _ (t : Ty) (v : Value) where
-  -- What a type holds is what the paper says that it holds, ..
+  -- What a type holds, the paper says that it holds.
   pub holding : holdsOf t v ≡ true → Holding t v
   holding e =
       let p = held t v e in
       let q = in-type t v (p .1) in
       record { exists = value-exists v (p .0); form = ap textNumber (held-read t v e canonical); admitted-is = admitted-words (partsOf t) v (q .0) (q .1) }
 
-  -- .. and the other way about.
+  -- What the paper says that a type holds, it holds.
   pub holds : Holding t v → holdsOf t v ≡ true
   holds h =
       let x = exists-value v (h .exists) in
@@ -179,7 +179,7 @@ module _ (t : Ty) (v : Value) where
 
 -- ---- the causes of what is judged
 
--- Why a value has its number: 0 for one that the type holds, ..
+-- Why a value has its number under a type: 0 for one that the type holds.
 pub data WhyJudged (t : Ty) (v : Value) : ℕ → Type 0 where
   holds-it : holdsOf t v ≡ true → WhyJudged t v 0
   -- "no such date, time or difference"
@@ -187,7 +187,7 @@ pub data WhyJudged (t : Ty) (v : Value) : ℕ → Type 0 where
   -- "exists, but not in the type"
   five : existsValue v ≡ true → inType t v ≡ false → WhyJudged t v 5
 
--- .. and why a text has it.
+-- Why a text has its number under a type.
 pub data WhyAdmitted (t : Ty) (l : List ℕ) : ℕ → Type 0 where
   -- a description that no settings and no name give
   one : wellFormed t ≡ false → WhyAdmitted t l 1

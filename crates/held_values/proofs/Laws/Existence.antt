@@ -18,14 +18,14 @@ three a b d e =
     let q = both a b (p .0) in
     (q .0, q .1, p .1)
 
--- At hour 24 all smaller fields and the fraction are 0, ..
+-- At hour 24 all smaller fields and the fraction are 0.
 pub hour-24 : (minutes seconds fraction : ℕ) → existsClock 24 minutes seconds fraction ≡ true → (minutes ≡ 0) × (seconds ≡ 0) × (fraction ≡ 0)
 unfolding existsClock
 hour-24 minutes seconds fraction e =
     let p = three (eqb minutes 0) (eqb seconds 0) (eqb fraction 0) e in
     (eqb-true minutes 0 (p .0), eqb-true seconds 0 (p .1), eqb-true fraction 0 (p .2))
 
--- .. and each field lies in its range.
+-- Each field of a clock that exists lies in its range.
 pub clock-range : (hours minutes seconds fraction : ℕ) → existsClock hours minutes seconds fraction ≡ true → (hours ≤ 24) × (minutes ≤ 59) × (seconds ≤ 60)
 unfolding existsClock
 clock-range hours minutes seconds fraction = go (eqb hours 24) refl where

@@ -136,12 +136,12 @@ module _ (t : Ty) (v : Value) (h : holdsOf t v ≡ true) where
       let q = in-type t v (held t v h .1) in
       rw (← q .0) (read-render longestYear (omega arith) (omega arith) s v held-fits)
 
-  -- And the type admits it, in every spelling.
+  -- A well-formed type admits a value that it holds, in every spelling.
   pub held-admitted : wellFormed t ≡ true → (s : Spelling) → admitted t (render s v) ≡ Admission.Value v
   unfolding admitted judged
   held-admitted w s = let p = held t v h in rw (w, held-read s, p .0, p .1)
 
--- What is judged to be held is held, ..
+-- What is judged to be held is held.
 pub judged-held : (t : Ty) (v : Value) → judged t v ≡ Judgement.Held → holdsOf t v ≡ true
 unfolding judged
 judged-held t v = go (existsValue v) refl (inType t v) refl where
@@ -151,7 +151,7 @@ judged-held t v = go (existsValue v) refl (inType t v) refl where
   go true x false y g = absurd (let z : _≡_ {A = ℕ} 0 1 = cc in omega arith)
   go false x b y g = absurd (let z : _≡_ {A = ℕ} 0 1 = cc in omega arith)
 
--- .. and what is then given is the value that was judged.
+-- A value that is given after it was judged is held, and is the one that was judged.
 given-held : (t : Ty) (w v : Value) → givenAs w (judged t w) ≡ Admission.Value v → (holdsOf t v ≡ true) × (w ≡ v)
 given-held t w v = go (judged t w) refl where
   go : (j : Judgement) → judged t w ≡ j → givenAs w j ≡ Admission.Value v → (holdsOf t v ≡ true) × (w ≡ v)

@@ -47,7 +47,7 @@ same-time f g e =
     let zone = by-number zoneNumber zoneAt zone-back (f .zone) (g .zone) (eqb-true _ _ (p .2)) in
     λ i. record { clock = clock i; digits = digits i; zone = zone i }
 
--- The test of two forms says that they are one, ..
+-- Two forms that test as one are one.
 pub same-form : (f g : Form) → sameForm f g ≡ true → f ≡ g
 same-form (Form.Date d) (Form.Date e) h = ap Form.Date (same-date d e h)
 same-form (Form.Date d) (Form.Time u) h = absurd (false≢true h)
@@ -75,7 +75,7 @@ time-same f =
     let zone = eq-eqb (zoneNumber (f .zone)) _ refl in
     simp (clock, digits, zone)
 
--- .. exactly when they are.
+-- Two forms that are one test as one.
 pub form-same : (f g : Form) → f ≡ g → sameForm f g ≡ true
 form-same f g e = rw (sym e) (itself f) where
   itself : (h : Form) → sameForm h h ≡ true
@@ -97,7 +97,7 @@ module _ (parts : Parts) (value : Value) {d : DateType} {u : TimeType} {date : D
       ≡ (sameDateForm (dateForm date) (d .form) && admitsDate d date && (sameTimeForm (timeForm time) (u .form) && admitsTime u time))
   date-time-in p v = simp (p, v) (crossed (sameDateForm (dateForm date) (d .form)) (sameTimeForm (timeForm time) (u .form)) (admitsDate d date) (admitsTime u time))
 
--- What a type holds exists, and is in the type, ..
+-- A type holds exactly what exists and is in the type.
 module _ (t : Ty) (value : Value) where
   pub held : holdsOf t value ≡ true → (existsValue value ≡ true) × (inType t value ≡ true)
   unfolding holdsOf
@@ -107,7 +107,7 @@ module _ (t : Ty) (value : Value) where
   unfolding holdsOf
   holds-both e i = simp (e, i)
 
-  -- .. so that the value's form is the type's.
+  -- A value in the type is of the type's form, and the type admits it.
   pub in-type : inType t value ≡ true → (valueForm value ≡ formOf t) × (admits (partsOf t) value ≡ true)
   unfolding inType
   in-type e =
@@ -178,7 +178,7 @@ module _ (lowest highest : Year) (above : ltZ (astronomicalOf highest) (astronom
       let p = both (sameForm (valueForm value) (formOf t)) (admits (partsOf t) value) (held t value e .1) in
       no-value (partsOf t) value w (p .0) (p .1))
 
--- The four Year settings: ..
+-- The four Year settings.
 pub data Setting : Type 0 where
   basic : Setting
   proleptic : Setting
@@ -210,11 +210,11 @@ setting-is five (negsuc k) e =
     let p = leb-true 9999 k (both (leb k 99998) (leb 9999 k) (rw or-false at e) .1) in
     simp (lt-leb k 9998 (omega arith))
 
--- .. no year is of two of them, ..
+-- No year is of two Year settings.
 pub one-setting : (a b : Setting) (y : ℤ) → inSetting a y ≡ true → inSetting b y ≡ true → a ≡ b
 one-setting a b y p q = sym (setting-is a y p) ∙ setting-is b y q
 
--- .. each year from -99999 to 99999 is of one, ..
+-- Each year from -99999 to 99999 is of a Year setting.
 pub some-setting : (y : ℤ) → between (negsuc 99998) (pos 99999) y ≡ true → (s : Setting) × (inSetting s y ≡ true)
 unfolding between
 some-setting (pos k) e = go (leb k 1581) (leb k 9999) refl refl where
@@ -227,7 +227,7 @@ some-setting (negsuc k) e = go (leb k 9998) refl where
   go true p = (negative, simp (p, le-leb 0 k (omega arith)))
   go false p = (five, simp (le-leb 9999 k (leb-false k 9998 p), rw and-true at e))
 
--- .. and no other year is.
+-- A year of a Year setting lies from -99999 to 99999.
 pub setting-range : (s : Setting) (y : ℤ) → inSetting s y ≡ true → between (negsuc 99998) (pos 99999) y ≡ true
 unfolding between
 setting-range basic (pos k) e = le-leb k 99999 (omega (arith, leb-true k 9999 (both (leb 1582 k) (leb k 9999) e .1)))
@@ -239,7 +239,7 @@ setting-range negative (negsuc k) e = rw and-true (le-leb k 99998 (omega (arith,
 setting-range five (pos k) e = both (leb 10000 k) (leb k 99999) e .1
 setting-range five (negsuc k) e = rw and-true (both (leb k 99998) (leb 9999 k) (rw or-false at e) .0)
 
--- The settings that a type names: a year is of one of them, ..
+-- Whether a Year setting is one that a type names.
 abbrev pub names : Years → Setting → Bool
 names (Years.Plain years) basic = years .basic
 names (Years.Plain years) proleptic = years .proleptic
@@ -255,11 +255,12 @@ either true true d e h f g = f refl refl
 either true false d e h f g = let p = both d e h in g (p .0) (p .1)
 either false b d e h f g = let p = both d e h in g (p .0) (p .1)
 
+-- A year of a type's years is of a setting that the type names.
 pub year-named : (years : Years) (y : ℤ) → inYears years y ≡ true → (s : Setting) × (names years s ≡ true) × (inSetting s y ≡ true)
 year-named (Years.Plain years) y e = either (years .basic) (inBasic y) (years .proleptic) (inProleptic y) e (λ n i. (basic, n, i)) (λ n i. (proleptic, n, i))
 year-named (Years.Signed years) y e = either (years .negative) (inNegative y) (years .five) (inFive y) e (λ n i. (negative, n, i)) (λ n i. (five, n, i))
 
--- .. and each that is, is in the type's years.
+-- A year of a setting that the type names is of the type's years.
 pub named-year : (years : Years) (s : Setting) (y : ℤ) → names years s ≡ true → inSetting s y ≡ true → inYears years y ≡ true
 named-year (Years.Plain years) basic y n i = simp (n, i)
 named-year (Years.Plain years) proleptic y n i = simp (n, i, or-true)

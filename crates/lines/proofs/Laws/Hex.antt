@@ -84,7 +84,7 @@ behind-front front x (some l) = ap some (sym (append-snoc front x l))
 behind-front front x none = refl
 
 module _ (text : List ℕ) (i : ℕ) where
-  -- A pair that is read leaves the rest to be read, ..
+  -- A pair that is read leaves the rest to be read.
   pub pair-read : (buffer : List ℕ) (n high low : ℕ) → i + 1 < length text → n < length buffer →
       high ≡ hexNumber (getD text i 0) → low ≡ hexNumber (getD text (i + 1) 0) → high < 16 → low < 16 →
       fromHex text ≡ behind (take n buffer) (fromHex (drop i text)) →
@@ -93,7 +93,7 @@ module _ (text : List ℕ) (i : ℕ) where
   pair-read buffer n high low h k a b s t e =
       rw (add-one n, take-suc-set buffer n (high * 16 + low) k, ← behind-front, e, two text i h, ← a, ← b, lt-ltb high 16 s, lt-ltb low 16 t)
 
-  -- .. one with an octet that is no digit ends the reading, ..
+  -- Nothing is read where a pair has an octet that is no hex digit.
   pub first-bad : (high : ℕ) → i + 1 < length text → high ≡ hexNumber (getD text i 0) → 15 < high → fromHex (drop i text) ≡ none
   unfolding fromHex
   first-bad high h a s = rw (two text i h, ← a, le-ltb high 16 s)
@@ -102,12 +102,12 @@ module _ (text : List ℕ) (i : ℕ) where
   unfolding fromHex
   second-bad low h a s = rw (two text i h, ← a, le-ltb low 16 s, and-false)
 
-  -- .. and so does half a pair, ..
+  -- Nothing is read where half a pair is left.
   pub half-left : i < length text → length text ≤ i + 1 → fromHex (drop i text) ≡ none
   unfolding fromHex
   half-left h k = let l : length text ≤ suc i = omega arith in rw (drop-cons text i 0 h, drop-of-length-le text l)
 
-  -- .. or the end.
+  -- At the end of the text, all has been read.
   pub none-left : (front : List ℕ) → length text ≤ i → behind front (fromHex (drop i text)) ≡ some front
   unfolding fromHex
   none-left front h = rw (drop-of-length-le text h, append-nil)

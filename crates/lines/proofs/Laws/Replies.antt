@@ -31,14 +31,14 @@ module _ (show : List ℕ → List ℕ) (number count : ℕ) (buffer : List ℕ)
   unfolding replyTo
   reply-done h = rw (eq-eqb _ _ h)
 
--- The numbers are at most 7, ..
+-- The number of an outcome is at most 7.
 pub number-most : (answer : Answer) (room : List ℕ) {outcome : Outcome} → outcome ≡ outcomeOf answer room → outcome .number ≤ 7
 number-most answer room e = rw e (go (told answer room)) where
   go : Told answer room → outcomeOf answer room .number ≤ 7
   go (given result bits a h o) = rw o (omega arith)
   go (withheld why o r) = rw o (omega (arith, number-range why))
 
--- .. and the lengths at most the room's.
+-- The length of an outcome is at most the room's.
 pub length-most : (answer : Answer) (room : List ℕ) {outcome : Outcome} → outcome ≡ outcomeOf answer room →
     outcome .length .count ≤ length room
 length-most answer room e = rw e (go (told answer room)) where

@@ -19,13 +19,13 @@ module _ {X A : Type 0} where
   pub found-more : {a b : A} {x : X} {s : List X} {C : Type 0} → found a (x ∷ s) ≡ found b [] → C
   found-more e = absurd (let z : _≡_ {A = ℕ} 0 1 = cc in omega arith)
 
-  -- What a chain of readers that succeeded went by, ..
+  -- A chain of two readers that found something: what the first found, and the second from there on.
   pub onward-found : {B : Type 0} (m : Found X A) (k : A → List X → Found X B) (b : B) (r : List X) → onward m k ≡ found b r →
       (a : A) × (l : List X) × (m ≡ found a l) × (k a l ≡ found b r)
   onward-found (found a l) k b r e = (a, l, refl, e)
   onward-found nothing k b r e = absurd (let z : _≡_ {A = ℕ} 0 1 = cc in omega arith)
 
-  -- .. and what a test that was passed showed.
+  -- Where something was found after a test, the test was passed.
   pub cond-found : (t : Bool) (m : Found X A) (a : A) (r : List X) → cond t m nothing ≡ found a r → (t ≡ true) × (m ≡ found a r)
   cond-found true m a r e = (refl, e)
   cond-found false m a r e = nothing-not e

@@ -10,7 +10,7 @@ use lib.Seq.{drop-cons}
 use borrow.Author.Tests.{eq-eqb, ne-eqb, eqb-true}
 use Rattle.octets.specs.Octets.{eqList}
 
--- Lists that test as equal are equal, ..
+-- Lists that test as equal are equal.
 pub equal : (a b : List ℕ) → eqList a b ≡ true → a ≡ b
 unfolding eqList
 equal [] [] e = refl
@@ -27,7 +27,7 @@ unfolding eqList
 self [] = refl
 self (x ∷ l) = rw (eq-eqb x x refl, self l)
 
--- .. and equal lists test so.
+-- Equal lists test as equal.
 pub equal-test : (a b : List ℕ) → a ≡ b → eqList a b ≡ true
 equal-test a b e = rw e (self b)
 

@@ -14,22 +14,22 @@ use Rattle.octets.specs.Pieces.{splitOn, spanTo}
 use Rattle.octets.proofs.Laws.Cases.{cond-le}
 
 module _ (c : ℕ) (s : List ℕ) (i : ℕ) where
-  -- The octet is here, ..
+  -- Nothing stands before the octet c where it is the next one.
   pub span-hit : i < length s → getD s i 0 ≡ c → spanTo c (drop i s) ≡ 0
   unfolding spanTo
   span-hit h e = rw (drop-cons s i 0 h, eq-eqb _ _ e)
 
-  -- .. it is not here, ..
+  -- One octet more stands before the octet c where another is the next one.
   pub span-miss : i < length s → (getD s i 0 ≡ c → ⊥) → spanTo c (drop i s) ≡ suc (spanTo c (drop (i + 1) s))
   unfolding spanTo
   span-miss h e = rw (add-one, drop-cons s i 0 h, ne-eqb _ _ e)
 
-  -- .. and the text is at its end.
+  -- Nothing stands before the octet c at the end of the text.
   pub span-end : length s ≤ i → spanTo c (drop i s) ≡ 0
   unfolding spanTo
   span-end h = rw (drop-of-length-le s h)
 
--- No more octets stand before it than there are.
+-- No more octets stand before the octet c than there are.
 pub span-le : (c : ℕ) (l : List ℕ) → spanTo c l ≤ length l
 unfolding spanTo
 span-le c [] = omega arith

@@ -56,17 +56,17 @@ pub octet-put : (room octets : List ℕ) (place i : ℕ) → i < length octets �
 octet-put room octets place i h = rw (add-one place, add-one i, drop-cons octets i 0 h)
 
 module _ {room octets m : List ℕ} {at r : ℕ} where
-  -- octets that have their place in the room, ..
+  -- Octets that have their place in the room are stored there.
   pub put-there : (r ≡ placeAfter room at octets) × (m ≡ roomAfter room at octets) → at + length octets ≤ length room → StoredText room m at octets r
   unfolding placeAfter roomAfter
   put-there e h = let t = le-leb (at + length octets) (length room) h in record { text = rw t at (e .1); end = rw t at (e .0) }
 
-  -- .. what is to be shown of code that stores them, ..
+  -- What is to be shown of code that stores octets which have their place in the room.
   pub put-all : at + length octets ≤ length room → StoredText room m at octets r → (r ≡ placeAfter room at octets) × (m ≡ roomAfter room at octets)
   unfolding placeAfter roomAfter
   put-all h s = let t = le-leb (at + length octets) (length room) h in (rw t (s .end), rw t (s .text))
 
--- .. and of code that leaves a room which ends before them
+-- What is to be shown of code that leaves a room as it was because it ends before the octets.
 pub put-nothing : (room octets : List ℕ) (at : ℕ) → length room < at + length octets → (at ≡ placeAfter room at octets) × (room ≡ roomAfter room at octets)
 unfolding placeAfter roomAfter
 put-nothing room octets at h = let t = lt-leb (at + length octets) (length room) h in (rw t, rw t)

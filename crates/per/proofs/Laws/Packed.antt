@@ -26,17 +26,17 @@ unfolding octetsFor countOf
 encoding-short row v = let l = most-bits row v in rw (length-encoding row v) (omega arith)
 
 module _ (row : YearRow) (v : Value) {packed : Packed} (e : packed ≡ packedOf row v) where
-  -- the bit count is the encoding's, ..
+  -- The bit count of a packed value is that of its encoding.
   pub packed-bits : packed .bits ≡ countOf row v
   unfolding packedOf countOf
   packed-bits = rw e
 
-  -- .. the octets that carry it lie in the buffer, ..
+  -- The octets that carry a packed value's bits lie in the buffer.
   pub packed-short : {n : ℕ} → n ≡ octetsFor (packed .bits) .count → n ≤ 16
   unfolding octetsFor countOf
   packed-short h = let l = most-bits row v in rw (h, packed-bits) (omega arith)
 
-  -- .. and they are the encoding.
+  -- The octets that carry a packed value's bits are its encoding.
   pub packed-front : {n : ℕ} → n ≡ octetsFor (packed .bits) .count → take n (packed .octets) ≡ encodingOf row v
   unfolding packedOf inBuffer encodingOf
   packed-front h =

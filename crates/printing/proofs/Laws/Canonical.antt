@@ -35,7 +35,8 @@ unfolding yearText
 text-before (pos k) e h = absurd (let q : _≡_ {A = ℕ} 0 1 = cc in omega arith)
 text-before {d} {n} (negsuc k) e h = let q : suc k ≡ n = cc in rw q
 
-pub text-since : {d : Distance} {n : ℕ} (z : ℤ) → d ≡ distanceOf z → d ≡ Distance.Since n → yearText z ≡ cond (ltb n 10000) (putDigits 4 n) (plus ∷ putDigits (yearDigits n) n)
+pub text-since : {d : Distance} {n : ℕ} (z : ℤ) → d ≡ distanceOf z → d ≡ Distance.Since n
+    → yearText z ≡ cond (ltb n 10000) (putDigits 4 n) (plus ∷ putDigits (yearDigits n) n)
 unfolding yearText
 text-since {d} {n} (pos k) e h = let q : k ≡ n = cc in rw q
 text-since (negsuc k) e h = absurd (let q : _≡_ {A = ℕ} 0 1 = cc in omega arith)
@@ -97,7 +98,9 @@ zone-length (Zone.LD d) = simp (length-append, length-put) (omega (arith, minute
 
 time-length : (t : Time) → t .digits ≤ 9 → length (putTime canonical t) ≤ 24
 unfolding putTime
-time-length t h = simp length-append (omega (arith, clock-length (t .clock), fraction-length (t .digits) (fraction false (t .fraction)) h, zone-length (t .zone)))
+time-length t h =
+    let f = fraction-length (t .digits) (fraction false (t .fraction)) h in
+    simp length-append (omega (arith, clock-length (t .clock), zone-length (t .zone)))
 
 pub text-length : (v : Value) → formDigits (valueForm v) ≤ 9 → length (textOf v) ≤ 52
 unfolding render
@@ -124,7 +127,8 @@ module _ (v : Value) (b : List ℕ) where
   unfolding lengthIn bufferWith
   not-printed e = (rw e, rw e)
 
-  pub printed : {m : List ℕ} {r : ℕ} → formDigits (valueForm v) ≤ 9 → textCapacity ≤ length b → StoredText b m 0 (textOf v) r → (r ≡ lengthIn v b) × (m ≡ bufferWith v b)
+  pub printed : {m : List ℕ} {r : ℕ} → formDigits (valueForm v) ≤ 9 → textCapacity ≤ length b → StoredText b m 0 (textOf v) r
+      → (r ≡ lengthIn v b) × (m ≡ bufferWith v b)
   unfolding lengthIn bufferWith
   printed h k p =
       let l : length (textOf v) ≤ length b = omega (arith, text-length v h) in

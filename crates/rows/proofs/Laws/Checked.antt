@@ -96,7 +96,7 @@ readTo : Value → List ℕ → ℕ → Found Bool Value
 unfolding bitsOf unpacked
 readTo v octets count = found v (drop count (unpacked octets))
 
--- What a row says, ..
+-- What a row says: the octets of its value, their bit count, and that they are read as the value.
 saysOf : Value → List ℕ → ℕ → Coding
 saysOf v octets count = coding octets count (readTo v octets count)
 
@@ -109,7 +109,7 @@ said (both y d c n f z octets count ∷ l) = saysOf (Value.DateTime d (at c n f 
 said (typedDate y d octets count ∷ l) = saysOf (Value.Date d) (hex octets) count ∷ said l
 said (typedBoth y d c n f z octets count ∷ l) = saysOf (Value.DateTime d (at c n f z)) (hex octets) count ∷ said l
 
--- .. and what the definitions make of it.
+-- What the definitions make of a row: the octets of its value, their bit count, and what its octets give.
 makesOf : YearRow → Value → List ℕ → Coding
 unfolding octetsFor astronomicalOf yearAt bitsOf numberIn packed octetsOf unpacked half within fewest twos fromTwos binaryDigits width fieldBits layout fieldWidth bitCount _>>=_ aRanged aFree require readBits readRanged readFree run otherYear choiceOfYear yearFields dayFields dateFields clockFields longFraction fractionFields hoursField differenceFields zoneFields timeFields fieldsOf readChoice readYear readDay readDate readClock natural readExtended readFraction readMinutes differenceAt readZone readTime readValue readOctets
 makesOf y v octets = coding (octetsOf (layout (fieldsOf y v))) (bitCount (fieldsOf y v)) (readOctets y (valueForm v) octets)

@@ -24,7 +24,7 @@ use Rattle.rows.proofs.Laws.Rows.{over-loose, over-fields}
 use Rattle.rows.proofs.Laws.Found.{drives-only}
 
 module _ (row : YearRow) (form : Form) (v : Value) (bits rest : BitString) where
-  -- Only loose spellings are read, ..
+  -- Only loose spellings are read.
   pub reads-only : run (readValue row form) bits ≡ found v rest → ReadableBits row form v bits rest
   reads-only e =
       let w = run-only (readValue row form) bits v rest e in
@@ -40,18 +40,18 @@ module _ (row : YearRow) (form : Form) (v : Value) (bits rest : BitString) where
         stood = w .stood;
       }
 
-  -- .. and all of them are.
+  -- All loose spellings are read.
   pub reads-all : ReadableBits row form v bits rest → run (readValue row form) bits ≡ found v rest
   reads-all r =
       let d = over-loose (r .other) (r .long) row v (r .inRange) in
       simp (r .stood, ← (r .formed)) (run-spelled (readValue row (valueForm v)) (r .spelled) rest v (r .well) (simp (r .fields) d))
 
 module _ (row : YearRow) (v : Value) (h : carried v ≡ true) where
-  -- What was laid out is read, whatever follows, ..
+  -- What was laid out is read, whatever follows.
   pub read-layout : (s : BitString) → run (readValue row (valueForm v)) (layout (fieldsOf row v) ++ s) ≡ found v s
   read-layout s = run-layout (readValue row (valueForm v)) (fieldsOf row v) s v (over-fields row v h)
 
-  -- .. and so from its octets: the filling is left.
+  -- What was laid out is read from its octets, and the filling is left.
   pub read-octets : readOctets row (valueForm v) (octetsOf (layout (fieldsOf row v)))
       ≡ found v (replicate (8 * octetsFor (record { count = length (layout (fieldsOf row v)) }) .count - length (layout (fieldsOf row v))) false)
   unfolding readOctets

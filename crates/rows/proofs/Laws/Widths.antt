@@ -86,7 +86,7 @@ time-most time =
     let z = zone-most (time .zone) in
     simp count-append (omega arith)
 
--- Of them 51 are the date's, 17 the clock's, 41 the fraction's and 12 the difference's.
+-- A value takes at most 121 bits: 51 are the date's, 17 the clock's, 41 the fraction's and 12 the difference's.
 pub most-bits : (row : YearRow) (v : Value) → bitCount (fieldsOf row v) ≤ 121
 unfolding fieldsOf
 most-bits row (Value.Date d) = let h = date-most row d in omega arith

@@ -189,7 +189,7 @@ spelled-date-time : (t : Bool) (d : Date) (r : List ℕ) → spelledWith t (putD
 unfolding plain
 spelled-date-time t d r = in-front t (putDate d) (letterT ∷ r) (plain-date d) ∙ ap (λ (x : List ℕ). putDate d ++ x) (in-front t (letterT ∷ []) r refl)
 
--- Every text of a value is such a text, ..
+-- Every text of a value in a spelling is the canonical text with the comma and the `:00` that the spelling says.
 pub spelled-only : (s : Spelling) (v : Value) → render s v ≡ spelledText s v
 unfolding render spelledWith
 spelled-only s (Value.Date d) = sym (ap (λ (x : List ℕ). x ++ []) (plain-spelled (s .comma) (putDate d) (plain-date d)) ∙ append-nil (putDate d))
@@ -199,12 +199,12 @@ spelled-only s (Value.DateTime d t) =
     rw (spelled-time s t)
     (sym (ap (λ (x : List ℕ). x ++ minutes) (spelled-date-time (s .comma) d (putTime canonical t)) ∙ append-assoc (putDate d) _ minutes))
 
--- .. so whatever is read is one, in no more spellings than these: no small letter, no space and no quotation mark is read, ..
+-- What is read is a text in one of these spellings and in no other: no small letter, no space and no quotation mark is read.
 pub read-spelled : (most : ℕ) → 4 ≤ most → most ≤ 9 → (f : Form) (l : List ℕ) (v : Value) (s : Spelling) →
     readUpTo most f l ≡ TextRead.Value v s → l ≡ spelledText s v
 read-spelled most low high f l v s e = render-read most low high f l v s e .0 ∙ spelled-only s v
 
--- .. and each of them is read, in no fewer: a comma in every form with a fraction, `:00` in every form with a difference.
+-- A text in each of these spellings is read: a comma in every form with a fraction, `:00` in every form with a difference.
 pub spelled-read : (most : ℕ) → 4 ≤ most → most ≤ 20 → (s : Spelling) (v : Value) → Fits most v →
     readUpTo most (valueForm v) (spelledText s v) ≡ TextRead.Value v (shownIn s v)
 spelled-read most low high s v h = rw (← spelled-only s v) (read-render most low high s v h)

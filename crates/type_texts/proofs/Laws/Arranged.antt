@@ -23,12 +23,10 @@ use Rattle.type_texts.specs.Written.{YearSetting, dateWord, yearWord, ti
 use Rattle.type_texts.proofs.Laws.Written.{yearNumber, timeCode, dateList, timeList, dateTimeList}
 use Rattle.type_texts.proofs.Laws.Words.{SettingWord, basic-date, basic-time, basic-date-time, date, year, time, zone, setting-spelled, pairs-read}
 
--- The pieces of a list and its settings: those of a date, ..
+-- The pieces of a list and its settings: those of a date, of a time, or of both.
 pub data ListOf (ws : List (List ℕ)) (s : Settings) : Type 0 where
   a-date : (f : DateForm) (y : YearSetting) → List·Permᴰ ws (datePairs f y) → s ≡ dateList f y → ListOf ws s
-  -- .. of a time, ..
   a-time : (t : TimeForm) → t .digits ≤ 9 → List·Permᴰ ws (timePairs t) → s ≡ timeList t → ListOf ws s
-  -- .. or of both.
   a-date-time : (f : DateForm) (t : TimeForm) (y : YearSetting) → t .digits ≤ 9 → List·Permᴰ ws (dateTimePairs f t y) → s ≡ dateTimeList f t y → ListOf ws s
 
 -- ---- the words of numbers, from the property k on
@@ -179,13 +177,13 @@ five-hold false b c d e h = absurd (false≢true h)
 not-there : (n : ℕ) → 0 < n → presentIf false n ≡ true → ⊥
 not-there n h e = let z : n ≡ 0 = eqb-true n 0 e in omega arith
 
--- The first number's word, where it is to be there, ..
+-- The first number has a word where its setting is to be there.
 needs : (k n : ℕ) (ns : List ℕ) (ws : List (List ℕ)) → presentIf true n ≡ true → Shown k (n ∷ ns) ws
     → (w : List ℕ) × (vs : List (List ℕ)) × SettingWord w (pair k n) × (ws ≡ w ∷ vs) × Shown (suc k) ns vs
 needs k n ns ws p (lacks x) = absurd (false≢true p)
 needs k n ns ws p (has {w = w} {ws = vs} i u x) = (w, vs, u, refl, x)
 
--- .. and none, where it has no place.
+-- The first number has no word where its setting has no place.
 skips : (k n : ℕ) (ns : List ℕ) (ws : List (List ℕ)) → presentIf false n ≡ true → Shown k (n ∷ ns) ws → (n ≡ 0) × Shown (suc k) ns ws
 skips k n ns ws p (lacks x) = (refl, x)
 skips k n ns ws p (has i u x) = absurd (not-there n i p)

@@ -1,4 +1,4 @@
--- Completeness: every well-formed type that is no name is read from its settings, their pairs in any order.
+-- Completeness: every well-formed type that is no useful time type is read from its settings, their pairs in any order.
 use mathlib.Core.Path.{_≡_, refl, ap, sym, _∙_}
 use mathlib.Core.List.{List, [], _∷_, map, List·Permᴰ, Permᴰ·refl}
 use mathlib.Core.Bool.{Bool, true, false, cond, and-eq-true-iff, or-true}
@@ -89,7 +89,7 @@ pub complete : (p : Parts) → wellFormed (listed p) ≡ true → {wss : List (L
     typeOf (limitsOf p) (typeText wss) ≡ TypeRead.«Type» (listed p)
 complete p h r = settings-read (limitsOf p) p h r ∙ own-limits p
 
--- .. and limits that have their place give the type under them.
+-- Every well-formed type under limits that have their place is read from its settings, in any order, with these limits.
 pub complete-limited : (limits : Limits) (t : «Type») → wellFormed t ≡ true →
     placed limits (hasDate (partsOf t)) (hasTime (partsOf t)) ≡ true → {wss : List (List (List ℕ))} →
     Arranged wss (listsFor (partsOf t)) →
@@ -102,7 +102,7 @@ pub in-order : (wss : List (List (List ℕ))) → Arranged wss wss
 in-order [] = end
 in-order (ws ∷ wss) = more (Permᴰ·refl ws) (in-order wss)
 
--- The same type, listed as settings.
+-- What was read, where a type is listed as settings in place of its name.
 abbrev pub relisted : TypeRead → TypeRead
 relisted (TypeRead.«Type» t) = TypeRead.«Type» (listed (partsOf t))
 relisted TypeRead.Unreadable = TypeRead.Unreadable

@@ -1,4 +1,4 @@
--- The converse of completeness for types: what is read as a type is a name, or the settings of that type, in some order.
+-- The converse of completeness for types: what is read as a type is the name of a useful time type, or the settings of that type, in some order.
 use mathlib.Core.Logic.{_⊎_, inl, inr}
 use mathlib.Core.Path.{_≡_, refl, ap, sym, _∙_, subst}
 use mathlib.Core.List.{List, [], _∷_, map, List·Permᴰ}

@@ -45,7 +45,7 @@ lacks-append c (x ∷ a) b e h =
     let p : (not (eqb x c) ≡ true) × (lacks c a ≡ true) = and-eq-true-iff _ _ .0 e in
     rw (p .0, lacks-append c a b (p .1) h)
 
--- What is joined lacks an octet that its pieces lack, ..
+-- What is joined lacks an octet that its pieces lack.
 pub lacks-join : (c d : ℕ) (ws : List (List ℕ)) → eqb d c ≡ false → allOf (lacks c) ws ≡ true → lacks c (joinWith d ws) ≡ true
 unfolding joinWith allOf lacks
 lacks-join c d [] n e = refl
@@ -63,7 +63,7 @@ unfolding lacks
 has-append c [] b e = absurd (true≢false e)
 has-append c (x ∷ a) b e = has-case (not (eqb x c)) (lacks c a) (lacks c (a ++ b)) (has-append c a b) e
 
--- .. and has one that its first piece has.
+-- What is joined has an octet that its first piece has.
 pub has-join : (c d : ℕ) (w : List ℕ) (ws : List (List ℕ)) → lacks c w ≡ false → lacks c (joinWith d (w ∷ ws)) ≡ false
 unfolding joinWith
 has-join c d w [] e = e
@@ -74,7 +74,7 @@ swap-and true b c = refl
 swap-and false true c = refl
 swap-and false false c = refl
 
--- What is true of every piece is so in any order, ..
+-- What is true of every piece is so in any order.
 pub all-perm : {A : Type 0} (p : A → Bool) {a b : List A} → List·Permᴰ a b → allOf p a ≡ allOf p b
 unfolding allOf
 all-perm p List·Permᴰ·nil = refl
@@ -82,7 +82,7 @@ all-perm p (List·Permᴰ·cons e d) = rw (e, all-perm p d)
 all-perm p (List·Permᴰ·swap {a = a} {b = b} {l = l} e g) = rw (← e, ← g) (swap-and (p a) (p b) (allOf p l))
 all-perm p (List·Permᴰ·trans d e) = all-perm p d ∙ all-perm p e
 
--- .. and so is what follows from it.
+-- What follows from a property that every piece has is true of every piece.
 pub all-weaken : {A : Type 0} (p q : A → Bool) → ((x : A) → p x ≡ true → q x ≡ true) → (l : List A) → allOf p l ≡ true →
     allOf q l ≡ true
 unfolding allOf

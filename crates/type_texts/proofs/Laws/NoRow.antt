@@ -63,7 +63,7 @@ module _ (limits : Limits) (l : List ℕ) (r : TwoRows limits l) where
       go (inl e) = r .differ e
       go (inr o) = r .apart o
 
-  -- Such lists are refusal 2, ..
+  -- Two lists that don't make one row are refusal 2.
   pub no-row-given : typeOf limits l ≡ TypeRead.NoRow
   no-row-given =
       ap (typeOf limits) (r .text-is) ∙ two-texts limits (r .first) (r .second) (r .no-bar .0) (r .no-bar .1)
@@ -120,7 +120,7 @@ module _ (limits : Limits) (l : List ℕ) where
           }
       go (p ∷ q ∷ o ∷ ps) e k j = absurd (too-many (map listOf ps) (allOf (usable limits) (map listOf (p ∷ q ∷ o ∷ ps))) (distinct (map listOf (p ∷ q ∷ o ∷ ps))) (passed _ _ j .0))
 
-  -- .. and nothing else is.
+  -- Only two lists that don't make one row are refusal 2.
   pub no-row-only : typeOf limits l ≡ TypeRead.NoRow → TwoRows limits l
   unfolding typeOf
   no-row-only = date-name (eqList l (bytes "DATE"))

@@ -39,7 +39,7 @@ same-itself : (s : Settings) → equalLists s s ≡ true
 unfolding equalLists sameButYear
 same-itself s = rw (eqb-same (basicIn s), eqb-same (dateIn s), eqb-same (timeIn s), eqb-same (zoneIn s), eqb-same (yearIn s))
 
--- Lists with the same settings are equal, ..
+-- Lists with the same settings test as equal.
 pub same-are-equal : (s t : Settings) → s ≡ t → equalLists s t ≡ true
 same-are-equal s t e = subst (λ (x : Settings). equalLists s x ≡ true) e (same-itself s)
 
@@ -62,7 +62,7 @@ but-year s t e =
     record { basic-same = eqb-true _ _ (p .0); date-same = eqb-true _ _ (p .1); time-same = eqb-true _ _ (p .2); zone-same = eqb-true _ _ (p .3) }
 
 module _ (a b : List ℕ) (h : listOf a .readable ≡ true) (k : listOf b .readable ≡ true) where
-  -- .. and two lists that can be read are equal only so: "the same settings, in whatever order".
+  -- Two lists that can be read test as equal only where they have the same settings, in whatever order.
   pub equal-are-same : equalLists (listOf a) (listOf b) ≡ true → listOf a ≡ listOf b
   unfolding equalLists
   equal-are-same e =
@@ -117,7 +117,7 @@ family-of m n proleptic-basic = refl
 family-of m n negative-five = refl
 family-of m n five-negative = refl
 
--- Lists that differ only in such Years are one row, ..
+-- Lists that differ only in Year, as Basic with Proleptic or Negative with L5, are one row.
 pub only-years-row : (s t : Settings) → OnlyYears s t → oneRow s t ≡ true
 unfolding oneRow sameButYear
 only-years-row s t o =
@@ -131,7 +131,7 @@ one-row-years s t (a-year u b y) (no-year c z) e f = absurd (b (e ∙ c))
 one-row-years s t (a-year u b y) (a-year v c z) e f = rw (y, z) (family u v (rw (y, z) at f))
 
 module _ (a b : List ℕ) (h : listOf a .readable ≡ true) (k : listOf b .readable ≡ true) where
-  -- .. and two lists that can be read are one row only so, unless they are the same.
+  -- Two lists that can be read are one row only where they are the same, or differ only in Year, as Basic with Proleptic or Negative with L5.
   pub row-only-years : oneRow (listOf a) (listOf b) ≡ true → (listOf a ≡ listOf b) ⊎ OnlyYears (listOf a) (listOf b)
   unfolding oneRow equalLists
   row-only-years e =

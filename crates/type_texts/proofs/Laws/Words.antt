@@ -36,7 +36,7 @@ pub data SettingWord : List ℕ → Pair → Type 0 where
   time : (c : ClockForm) (n : ℕ) → n ≤ 9 → SettingWord (timeWord c n) (pair 3 (timeCode c n))
   zone : (z : ZoneForm) → SettingWord (zoneWord z) (pair 4 (zoneNumber z))
 
--- The same of a word with a fraction.
+-- The word of a Time setting with a fraction, with its property and its number.
 fraction : (c : ClockForm) (n : ℕ) → 1 ≤ n → n ≤ 9 → SettingWord (clockWord c ++ bytes "F" ++ (48 + n) ∷ []) (pair 3 (timeCode c n))
 fraction c n h k = let w = time c n k in rw (ne-eqb n 0 (λ z. omega arith)) at w
 

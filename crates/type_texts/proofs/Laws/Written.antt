@@ -123,22 +123,22 @@ time-back t =
 
 -- ---- One list: its pairs give its settings.
 
--- The settings of a list with a date, ..
+-- The settings of a list with a date.
 abbrev pub dateList : DateForm → YearSetting → Settings
 dateList f y = settings (1 ∷ dateNumber f ∷ yearNumber y ∷ 0 ∷ 0 ∷ [])
 
--- .. with a time, ..
+-- The settings of a list with a time.
 abbrev pub timeList : TimeForm → Settings
 timeList t = settings (2 ∷ 0 ∷ 0 ∷ timeCode (t .clock) (t .digits) ∷ zoneNumber (t .zone) ∷ [])
 
--- .. and with both.
+-- The settings of a list with a date and a time.
 abbrev pub dateTimeList : DateForm → TimeForm → YearSetting → Settings
 dateTimeList f t y = settings (3 ∷ dateNumber f ∷ yearNumber y ∷ timeCode (t .clock) (t .digits) ∷ zoneNumber (t .zone) ∷ [])
 
 not-zero : (n : ℕ) → 0 < n → eqb n 0 ≡ false
 not-zero n h = ne-eqb n 0 (λ z. omega arith)
 
--- The pairs of a list give these settings: of a date, ..
+-- The pairs of a list with a date give its settings.
 pub date-list : (f : DateForm) (y : YearSetting) → completed (addPairs (settings noneYet) (datePairs f y)) ≡ dateList f y
 unfolding completed complete datedList timedList addPairs addPair
 date-list f y =
@@ -146,7 +146,7 @@ date-list f y =
     let v = year-setting y in
     rw (basic-pairs .0, d .word, v .word, lt-ltb 0 _ (d .some), lt-ltb 0 _ (v .some), not-zero _ (d .some), not-zero _ (v .some))
 
--- .. of a time, ..
+-- The pairs of a list with a time give its settings.
 pub time-list : (t : TimeForm) → t .digits ≤ 9 → completed (addPairs (settings noneYet) (timePairs t)) ≡ timeList t
 unfolding completed complete datedList timedList addPairs addPair
 time-list t k =
@@ -154,7 +154,7 @@ time-list t k =
     let z = zone-setting (t .zone) in
     rw (basic-pairs .1, time-word (t .clock) (t .digits) k, z .word, lt-ltb 0 _ s, lt-ltb 0 _ (z .some), not-zero _ s, not-zero _ (z .some))
 
--- .. and of both.
+-- The pairs of a list with a date and a time give its settings.
 pub date-time-list : (f : DateForm) (t : TimeForm) → t .digits ≤ 9 → (y : YearSetting) →
     completed (addPairs (settings noneYet) (dateTimePairs f t y)) ≡ dateTimeList f t y
 unfolding completed complete datedList timedList addPairs addPair
@@ -181,16 +181,16 @@ date-time-list f t k y =
 
 -- ---- A list's text, its pairs in any order.
 
--- No space, no bar, and an equals sign.
+-- A word has no space, no bar, and an equals sign.
 unfoldable pub isWord : List ℕ → Bool
 isWord w = lacks 32 w && (lacks 124 w && not (lacks 61 w))
 
--- Every pair is such a word: of Basic, ..
+-- Every pair of Basic is a word.
 pub basic-words : (isWord (bytes "Basic=Date") ≡ true) × (isWord (bytes "Basic=Time") ≡ true) × (isWord (bytes "Basic=Date-Time") ≡ true)
 unfolding isWord lacks
 basic-words = (refl, refl, refl)
 
--- .. of Date, ..
+-- Every pair of Date is a word.
 pub date-is-word : (f : DateForm) → isWord (dateWord f) ≡ true
 unfolding isWord lacks
 date-is-word DateForm.Y = refl
@@ -200,7 +200,7 @@ date-is-word DateForm.YD = refl
 date-is-word DateForm.YW = refl
 date-is-word DateForm.YWD = refl
 
--- .. of Year, ..
+-- Every pair of Year is a word.
 pub year-is-word : (y : YearSetting) → isWord (yearWord y) ≡ true
 unfolding isWord lacks
 year-is-word basic = refl
@@ -208,14 +208,14 @@ year-is-word proleptic = refl
 year-is-word negative = refl
 year-is-word five = refl
 
--- .. of Local-or-UTC, ..
+-- Every pair of Local-or-UTC is a word.
 pub zone-is-word : (z : ZoneForm) → isWord (zoneWord z) ≡ true
 unfolding isWord lacks
 zone-is-word ZoneForm.L = refl
 zone-is-word ZoneForm.Z = refl
 zone-is-word ZoneForm.LD = refl
 
--- .. and of Time.
+-- Every pair of Time is a word.
 pub time-is-word : (c : ClockForm) (n : ℕ) → n ≤ 9 → isWord (timeWord c n) ≡ true
 unfolding isWord lacks
 time-is-word c n k = go c (eqb n 0) where
@@ -401,7 +401,7 @@ limited-again limits (Parts.Time t) = twice (placed limits false true) _
 limited-again limits (Parts.DateTime d t) = twice (placed limits true true) _
 
 module _ (limits : Limits) where
-  -- The lists of a date make its type, ..
+  -- The lists of a type of dates make that type.
   pub date-joined : (d : DateType) → someYear (d .years) ≡ true →
       joined limits (map (dateList (d .form)) (namedYears (d .years))) ≡ limitedTo limits (listed (Parts.Date d))
   unfolding listType
@@ -409,14 +409,14 @@ module _ (limits : Limits) where
       years-joined limits 1 (dateNumber (d .form)) 0 0 _ refl (d .years) h
       ∙ rw (date-setting (d .form) .back, years-back (d .years) h) (limited-again limits (Parts.Date d))
 
-  -- .. those of a time, ..
+  -- The list of a type of times makes that type.
   pub time-joined : (t : TimeType) → joined limits (timeList (t .form) ∷ []) ≡ limitedTo limits (listed (Parts.Time t))
   unfolding listType
   time-joined t =
       one-joined limits 2 0 (timeCode (t .form .clock) (t .form .digits)) (zoneNumber (t .form .zone)) 0 _ refl
       ∙ rw (time-back (t .form)) (limited-again limits (Parts.Time t))
 
-  -- .. and those of both.
+  -- The lists of a type of dates with times make that type.
   pub date-time-joined : (d : DateType) (t : TimeType) → someYear (d .years) ≡ true →
       joined limits (map (dateTimeList (d .form) (t .form)) (namedYears (d .years))) ≡ limitedTo limits (listed (Parts.DateTime d t))
   unfolding listType

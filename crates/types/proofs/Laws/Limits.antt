@@ -17,7 +17,7 @@ use Rattle.types.specs.declared.types.Window.{Window}
 use Rattle.types.specs.declared.types.Years.{Years}
 use Rattle.types.specs.declared.types.«Type».{«Type»}
 
--- The same settings with exactly the restrictions of these limits.
+-- That settings differ from others in the restrictions alone, and have exactly those of these limits.
 pub data Carried (limits : Limits) : Parts → Parts → Type 0 where
   date : (d : DateType) → limits .hour24 ≡ true
       → Carried limits (Parts.Date d) (Parts.Date (record { form = d .form; years = d .years; window = limits .window }))

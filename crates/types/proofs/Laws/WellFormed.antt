@@ -1,4 +1,4 @@
--- Which types are well-formed: those that settings or a name can give, under any limits, and no others.
+-- Which types are well-formed: those that settings or the name of a useful time type can give, under any limits, and no others.
 use mathlib.Core.Path.{_≡_, refl}
 use mathlib.Core.Bool.{Bool, true, false, _||_, or-true}
 use Prim.Native.Nat.{_≤_}
@@ -82,14 +82,15 @@ well-settings («Type».DateTime w x) h = refl
 
 -- ---- names
 
--- "YMD with Year=Basic, ..
+-- "YMD with Year=Basic", whatever the restriction.
 abbrev ymdIn : Window → DateType
 ymdIn w = record { form = DateForm.YMD; years = Years.Plain (record { basic = true; proleptic = false }); window = w }
 
--- .. HMS with L, and both together", whatever the restrictions.
+-- "HMS with L", whatever the restriction.
 abbrev hmsWith : Bool → TimeType
 hmsWith h = record { form = record { clock = ClockForm.HMS; digits = 0; zone = ZoneForm.L }; hour24 = h }
 
+-- "YMD with Year=Basic, HMS with L, and both together": the settings that the names stand for, whatever the restrictions.
 pub DATE-settings : (w : Window) → partsOf («Type».Date w) ≡ Parts.Date (ymdIn w)
 DATE-settings w = refl
 

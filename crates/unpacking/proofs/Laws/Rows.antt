@@ -12,7 +12,7 @@ use Rattle.fields.specs.Readings.{give, _>>=_, aRanged, aFree, require, run}
 use Rattle.rows.specs.Readings.{readChoice, readClock, natural, readExtended, readFraction, readMinutes}
 use Rattle.unpacking.specs.Steps.{afterHours}
 
--- The fourth choice of a year, and those that no two bits make.
+-- Choice 3 of a year, which is remainder, and the choices that no two bits make.
 pub other-choice : (n : ℕ) → 3 ≤ n → readChoice n ≡ aFree
 unfolding readChoice
 other-choice zero h = absurd (omega arith)

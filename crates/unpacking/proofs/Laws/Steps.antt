@@ -36,14 +36,14 @@ unfolding run
 given (found a s) = refl
 given nothing = refl
 
--- A number of a range, by what was read of its bits, ..
+-- A number of a range (a constrained whole number), by what was read of its bits.
 pub ranged-by : (r w : ℕ) (s : BitString) {m : Found Bool ℕ} → w ≡ width r → readBits w s ≡ m
     → run (aRanged r) s ≡ onward m (λ v s. cond (ltb v r) (found v s) nothing)
 unfolding run aRanged readRanged
 ranged-by r w s e h =
     given (readRanged r s) ∙ ap (λ m. onward m (λ v s. cond (ltb v r) (found v s) nothing)) (ap (λ (n : ℕ). readBits n s) (sym e) ∙ h)
 
--- .. and a free integer, by what was read of its length, ..
+-- A free integer (an unconstrained whole number), by what was read of its length.
 pub free-by : (s : BitString) {m : Found Bool ℕ} → readBits 8 s ≡ m
     → run aFree s ≡ onward m (λ n s.
     cond (leb 1 n) (cond (leb n 4) (onward (readBits (8 * n) s) (λ t s. found (fromTwos n t) s)) nothing) nothing)
@@ -53,7 +53,7 @@ free-by s h =
     ∙ ap (λ m. onward m (λ n s.
     cond (leb 1 n) (cond (leb n 4) (onward (readBits (8 * n) s) (λ t s. found (fromTwos n t) s)) nothing) nothing)) h
 
--- .. which has a width, or none.
+-- A free integer, by a length that has a width, or has none.
 module _ (s : BitString) {n : ℕ} {t : BitString} (h : readBits 8 s ≡ found n t) where
   pub free-some : (w : ℕ) → (1 ≤ n) × (n ≤ 4) × (w ≡ 8 * n) → run aFree s ≡ onward (readBits w t) (λ v s. found (signedOf w v) s)
   unfolding signedOf fromTwos half

@@ -67,10 +67,15 @@ returns-5 : tie.Need-returns-5
 returns-5 c = simp (c .before .before .before .date4 .given .1, c .up-to4 .ensures, c .before .weeks-in-year .ensures)
 
 returns-6 : tie.Need-returns-6
-returns-6 c = simp (c .before .before .before .before .before .date5 .given .1, ← c .before .before .before .weeks-in-year2 .ensures, ← c .before .before .up-to5 .ensures, c .before .if1 .taken, c .up-to6 .ensures)
+returns-6 c =
+    let weeks-in-year2 = c .before .before .before .weeks-in-year2 in
+    let date5 = c .before .before .before .before .before .date5 in
+    simp (date5 .given .1, ← weeks-in-year2 .ensures, ← c .before .before .up-to5 .ensures, c .before .if1 .taken, c .up-to6 .ensures)
 
 returns-7 : tie.Need-returns-7
-returns-7 c = simp (c .before .before .before .before .date5 .given .1, ← c .before .before .weeks-in-year2 .ensures, ← c .before .up-to5 .ensures, c .if1 .left)
+returns-7 c =
+    let date5 = c .before .before .before .before .date5 in
+    simp (date5 .given .1, ← c .before .before .weeks-in-year2 .ensures, ← c .before .up-to5 .ensures, c .if1 .left)
 
 pub date-exists-spec : {M : Type 1} → statement M
 date-exists-spec =

@@ -15,7 +15,9 @@ month-length-requires : tie.Need-month-length-requires
 month-length-requires c κs = search needs
 
 returns : tie.Need-returns
-returns c = c .month-length .ensures ∙ ap (λ (y : ℤ). monthLengthOf y (c .before .before .args .month)) (c .before .of .ensures ∙ toZ-ofZ w32 _ (c .before .before .fits .year))
+returns c =
+    c .month-length .ensures ∙ ap (λ (y : ℤ). monthLengthOf y (c .before .before .args .month)) (c .before .of .ensures ∙ toZ-ofZ w32 _
+    (c .before .before .fits .year))
 
 pub anafzir-month-length-spec : {M : Type 1} → statement M
 anafzir-month-length-spec = tie.close (tie.spec of-requires month-length-requires returns)

@@ -26,33 +26,47 @@ slice-aggregate-text-into c = search needs
 text-into-requires : tie.Need-text-into-requires
 text-into-requires c κs = search needs
 
+abbrev start : tie.After-text-into → tie.Start
+start k = k .before .before .before .before .before
+
+-- The text is short, and within its buffer.
+short : (k : tie.After-text-into) → (k .text-into .result ≤ 52) × (k .text-into .result ≤ length (k .text-into .last .1 .0))
+short k =
+    let w : length (k .text-into .last .1 .0) ≡ textCapacity = search needs in
+    let s = text-short _ _ (omega arith) (k .text-into .ensures .0) in
+    (s, omega arith)
+
 array-share-prefix-text : tie.Need-array-share-prefix-text
-array-share-prefix-text c = let w : length (c .before .text-into .last .1 .0) ≡ textCapacity = search needs in omega (arith, text-short _ _ (omega arith) (c .before .text-into .ensures .0))
+array-share-prefix-text c = short (c .before) .1
 
 slice-aggregate-write-element : tie.Need-slice-aggregate-write-element
-slice-aggregate-write-element c = sym (length-take-le _ _ (let w : length (c .before .before .text-into .last .1 .0) ≡ textCapacity = search needs in omega (arith, text-short _ _ (omega arith) (c .before .before .text-into .ensures .0))))
+slice-aggregate-write-element c = sym (length-take-le _ _ (short (c .before .before) .1))
 
 slice-aggregate-write-element-2 : tie.Need-slice-aggregate-write-element-2
 slice-aggregate-write-element-2 c = search needs
 
 write-element-requires : tie.Need-write-element-requires
-write-element-requires c κs = let w : length (c .before .before .before .text-into .last .1 .0) ≡ textCapacity = search needs in let k = text-short _ _ (omega arith) (c .before .before .before .text-into .ensures .0) in let e = length-take-le (c .before .before .before .text-into .result) (c .before .before .before .text-into .last .1 .0) (omega arith) in omega arith
+write-element-requires c κs =
+    let k = c .before .before .before in
+    let e = length-take-le (k .text-into .result) (k .text-into .last .1 .0) (short k .1) in
+    omega (arith, short k .0)
 
--- The text is the value's, ..
-printed : (k : tie.After-text-into) → take (k .text-into .result) (k .text-into .last .1 .0) ≡ textOf (k .before .before .before .before .before .args .value)
+-- The text is the value's.
+printed : (k : tie.After-text-into) → take (k .text-into .result) (k .text-into .last .1 .0) ≡ textOf (start k .args .value)
 printed k =
-    let start = k .before .before .before .before .before in
-    text-taken _ _ (omega arith) (k .text-into .ensures .0) (k .text-into .ensures .1) ∙ printed-text (start .args .value) (start .pre)
+    text-taken _ _ (omega arith) (k .text-into .ensures .0) (k .text-into .ensures .1) ∙ printed-text (start k .args .value) (start k .pre)
 
--- .. and what is written is its element.
+-- What is written is its element.
 written : (k : tie.After-write-element)
-    → (k .write-element .result .length .count ≤ 55)
-    × (take (k .write-element .result .length .count) (k .write-element .last .1 .1 .0) ≡ elementOf (nameOf (k .before .before .before .before .before .before .before .before .before .args .t)) (k .before .before .before .before .before .before .before .before .before .args .value))
+    → let a = start (k .before .before .before .before) .args in
+    (k .write-element .result .length .count ≤ 55)
+    × (take (k .write-element .result .length .count) (k .write-element .last .1 .1 .0) ≡ elementOf (nameOf (a .t)) (a .value))
 written k =
     let text = k .before .before .before .before in
-    let start = text .before .before .before .before .before in
-    rw (← text .before .before .name .ensures)
-    (own-element (text .before .before .name .result) (start .args .value) _ _ _ _ (start .pre) (printed text) (omega arith) (k .write-element .ensures .0) (k .write-element .ensures .1))
+    let name = text .before .before .name in
+    rw (← name .ensures)
+    (own-element (name .result) (start text .args .value) _ _ _ _ (start text .pre) (printed text) (omega arith)
+    (k .write-element .ensures .0) (k .write-element .ensures .1))
 
 array-share-prefix-own : tie.Need-array-share-prefix-own
 array-share-prefix-own c =
@@ -75,13 +89,18 @@ refused-requires c κs = search needs
 
 returns : tie.Need-returns
 unfolding compared outcomeOf roomOf
-returns c = rw (← written (c .before .before .before .before .before) .1, sym (c .before .before .same .ensures) ∙ not-true _ (c .before .if1 .taken)) (c .refused .ensures, refl)
+returns c =
+    rw (
+      ← written (c .before .before .before .before .before) .1,
+      sym (c .before .before .same .ensures) ∙ not-true _ (c .before .if1 .taken),
+    )
+    (c .refused .ensures, refl)
 
 array-share-prefix-text-2 : tie.Need-array-share-prefix-text-2
-array-share-prefix-text-2 c = let w : length (c .before .before .before .before .before .before .before .before .text-into .last .1 .0) ≡ textCapacity = search needs in omega (arith, text-short _ _ (omega arith) (c .before .before .before .before .before .before .before .before .text-into .ensures .0))
+array-share-prefix-text-2 c = short (c .before .before .before .before .before .before .before .before) .1
 
 slice-aggregate-deliver : tie.Need-slice-aggregate-deliver
-slice-aggregate-deliver c = sym (length-take-le _ _ (let w : length (c .before .before .before .before .before .before .before .before .before .text-into .last .1 .0) ≡ textCapacity = search needs in omega (arith, text-short _ _ (omega arith) (c .before .before .before .before .before .before .before .before .before .text-into .ensures .0))))
+slice-aggregate-deliver c = sym (length-take-le _ _ (short (c .before .before .before .before .before .before .before .before .before) .1))
 
 deliver-requires : tie.Need-deliver-requires
 deliver-requires c κs = search needs
@@ -93,7 +112,12 @@ returns-2 : tie.Need-returns-2
 unfolding compared
 returns-2 c =
     let test = c .before .before .before .before .before in
-    rw (← written (c .before .before .before .before .before .before .before .before .before) .1, sym (test .before .same .ensures) ∙ not-false _ (test .if1 .left), ← printed (c .before .before .before .before .before .before .before .before .before .before .before .before .before))
+    let k = test .before .before .before .before in
+    rw (
+      ← written k .1,
+      sym (test .before .same .ensures) ∙ not-false _ (test .if1 .left),
+      ← printed (k .before .before .before .before),
+    )
     (c .before .before .deliver .ensures)
 
 pub compare-spec : {M : Type 1} → statement M

@@ -1,16 +1,16 @@
 -- `elements::count_contents` meets its contract: what is counted, and the contents of what is left, are those of the text.
 use mathlib.Core.Path.{_≡_, refl, ap}
-use mathlib.Core.List.{[], _∷_}
 use Prim.Native.Nat.{_+_, _-_, _≤_}
 use native.Mathlib.Omega.{arith}
-use lib.ListN.{drop, getD, length}
+use lib.ListN.{drop, length}
 use Rattle.der_elements.specs.Elements.{contentsOf}
-use Rattle.der_elements.proofs.Laws.Contents.{contents-count, contents-end}
+use Rattle.der_elements.proofs.Laws.Contents.{contents-counted, contents-end}
 use Rattle.der.proofs.elements.count_contents.Statement.{statement}
 use Rattle.der.proofs.elements.count_contents.Tie as tie
 
 abbrev Inv-loop : tie.InvT-loop
-Inv-loop name text count₀ i₀ count i = (i ≤ length text) × (count ≤ i) × (count + length (contentsOf name (drop i text)) ≡ length (contentsOf name text))
+Inv-loop name text count₀ i₀ count i =
+    (i ≤ length text) × (count ≤ i) × (count + length (contentsOf name (drop i text)) ≡ length (contentsOf name text))
 
 abbrev μ-loop : tie.MeasureT-loop
 μ-loop name text count₀ i₀ count i = length text - i
@@ -34,10 +34,17 @@ loop-less : tie.Need-loop-less Inv-loop μ-loop
 loop-less c = omega arith
 
 loop-again : tie.Need-loop-again Inv-loop μ-loop
-loop-again c = let k : c .count-octet .result ≡ length (contentsOf (c .before .before .before .before .before .args .name) (getD (c .before .before .before .before .before .args .text .now) (c .before .before .before .loop .i) 0 ∷ [])) = c .count-octet .ensures .0 in let l : length (contentsOf (c .before .before .before .before .before .args .name) (drop (c .before .before .before .loop .i) (c .before .before .before .before .before .args .text .now))) ≡ length (contentsOf (c .before .before .before .before .before .args .name) (getD (c .before .before .before .before .before .args .text .now) (c .before .before .before .loop .i) 0 ∷ [])) + length (contentsOf (c .before .before .before .before .before .args .name) (drop (c .before .before .before .loop .i + 1) (c .before .before .before .before .before .args .text .now))) = contents-count _ _ _ (c .before .before .loop-test .taken) in (omega arith, omega arith, omega arith)
+loop-again c =
+    let a = c .before .before .before .before .before .args in
+    let i = c .before .before .before .loop .i in
+    let e = contents-counted (a .name) (a .text .now) i (c .before .before .loop-test .taken) (c .count-octet .ensures .0) in
+    (omega arith, omega arith, omega arith)
 
 returns : tie.Need-returns Inv-loop μ-loop
-returns c = let e = contents-end (c .before .before .before .args .name) (c .before .before .before .args .text .now) (c .before .loop .i) (omega arith) in (omega (arith, ap length e), omega arith)
+returns c =
+    let a = c .before .before .before .args in
+    let e = contents-end (a .name) (a .text .now) (c .before .loop .i) (omega arith) in
+    (omega (arith, ap length e), omega arith)
 
 pub count-contents-spec : {M : Type 1} → statement M
 count-contents-spec =

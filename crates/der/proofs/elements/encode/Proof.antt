@@ -19,7 +19,9 @@ enum-known-admission : tie.Need-enum-known-admission
 enum-known-admission c = search needs
 
 write-value-requires : tie.Need-write-value-requires
-write-value-requires c κs = held _ _ (admitted-held _ _ _ (sym (c .before .before .before .before .admit .ensures) ∙ c .before .before .admission .given .1) .1) .0
+write-value-requires c κs =
+    let a = c .before .before in
+    held _ _ (admitted-held _ _ _ (sym (a .before .before .admit .ensures) ∙ a .admission .given .1) .1) .0
 
 enum-known-admission-2 : tie.Need-enum-known-admission-2
 enum-known-admission-2 c = search needs

@@ -1,10 +1,8 @@
 -- `elements::put_octet` meets its contract.
-use mathlib.Core.Path.{_≡_, ap, sym, _∙_}
-use mathlib.Core.List.{[], _∷_}
+use mathlib.Core.Path.{ap, sym, _∙_}
 use native.Mathlib.Omega.{arith}
 use lib.ListN.{length}
 use Rattle.octets.proofs.Laws.Stores.{put-none, put-octet}
-use Rattle.der_elements.specs.Elements.{contentsOf}
 use Rattle.der_elements.proofs.Laws.Contents.{octet-kept, octet-omitted}
 use borrow.Author.Needs.{needs}
 use Rattle.der.proofs.elements.put_octet.Statement.{statement}
@@ -17,7 +15,10 @@ returns : tie.Need-returns
 returns c = rw (octet-omitted _ _ (sym (c .before .omits .ensures) ∙ c .if1 .taken)) (put-none _ _)
 
 slice-write-room : tie.Need-slice-write-room
-slice-write-room c = let e : contentsOf (c .before .before .before .args .name) (c .before .before .before .args .octet ∷ []) ≡ c .before .before .before .args .octet ∷ [] = octet-kept _ _ (sym (c .before .omits .ensures) ∙ c .if1 .left) in omega (arith, ap length e)
+slice-write-room c =
+    let a = c .before .before .before .args in
+    let e = octet-kept (a .name) (a .octet) (sym (c .before .omits .ensures) ∙ c .if1 .left) in
+    omega (arith, ap length e)
 
 add-result : tie.Need-add-result
 add-result c = search needs

@@ -1,5 +1,6 @@
 -- `elements::write_value` meets its contract: the text of a value is short.
 use mathlib.Core.Path.{_≡_, sym}
+use Prim.Native.Nat.{_≤_}
 use native.Mathlib.Omega.{arith}
 use lib.ListN.{length}
 use lib.Seq.{length-take-le}
@@ -16,21 +17,37 @@ slice-aggregate-text-into c = search needs
 text-into-requires : tie.Need-text-into-requires
 text-into-requires c κs = tt
 
+-- The text is short, and within its buffer.
+short : (k : tie.After-text-into) → (k .text-into .result ≤ 52) × (k .text-into .result ≤ length (k .text-into .last .1 .0))
+short k =
+    let w : length (k .text-into .last .1 .0) ≡ textCapacity = search needs in
+    let s = text-short _ _ (omega arith) (k .text-into .ensures .0) in
+    (s, omega arith)
+
 array-share-prefix-text : tie.Need-array-share-prefix-text
-array-share-prefix-text c = let w : length (c .before .text-into .last .1 .0) ≡ textCapacity = search needs in omega (arith, text-short _ _ (omega arith) (c .before .text-into .ensures .0))
+array-share-prefix-text c = short (c .before) .1
 
 slice-aggregate-write-element : tie.Need-slice-aggregate-write-element
-slice-aggregate-write-element c = sym (length-take-le _ _ (let w : length (c .before .before .text-into .last .1 .0) ≡ textCapacity = search needs in omega (arith, text-short _ _ (omega arith) (c .before .before .text-into .ensures .0))))
+slice-aggregate-write-element c = sym (length-take-le _ _ (short (c .before .before) .1))
 
 write-element-requires : tie.Need-write-element-requires
-write-element-requires c κs = let w : length (c .before .before .before .text-into .last .1 .0) ≡ textCapacity = search needs in let k = text-short _ _ (omega arith) (c .before .before .before .text-into .ensures .0) in let e = length-take-le (c .before .before .before .text-into .result) (c .before .before .before .text-into .last .1 .0) (omega arith) in omega arith
+write-element-requires c κs =
+    let k = c .before .before .before in
+    let e = length-take-le (k .text-into .result) (k .text-into .last .1 .0) (short k .1) in
+    omega (arith, short k .0)
 
 same-length : tie.Need-same-length
 same-length c = search needs
 
 returns : tie.Need-returns
 unfolding elementOf
-returns c = rw (← printed-text _ (c .before .before .before .before .before .before .before .before .before .pre), ← text-taken _ _ (omega arith) (c .before .before .before .before .before .before .text-into .ensures .0) (c .before .before .before .before .before .before .text-into .ensures .1)) (c .before .before .write-element .ensures)
+returns c =
+    let k = c .before .before .before .before .before .before in
+    rw (
+      ← printed-text _ (k .before .before .before .pre),
+      ← text-taken _ _ (omega arith) (k .text-into .ensures .0) (k .text-into .ensures .1),
+    )
+    (c .before .before .write-element .ensures)
 
 pub write-value-spec : {M : Type 1} → statement M
 write-value-spec =

@@ -28,7 +28,9 @@ shared-slice-read-if2 : tie.Need-shared-slice-read-if2 Inv-loop μ-loop
 shared-slice-read-if2 c = search needs
 
 returns-2 : tie.Need-returns-2 Inv-loop μ-loop
-returns-2 c = sym (c .before .before .before .before .before .loop .inv .1 ∙ above-digits _ _ (c .before .before .before .before .loop-test .taken) (omega (arith, c .before .before .if1 .left)) (c .if2 .taken))
+returns-2 c =
+    let t = c .before .before .before .before in
+    sym (t .before .loop .inv .1 ∙ above-digits _ _ (t .loop-test .taken) (omega (arith, c .before .before .if1 .left)) (c .if2 .taken))
 
 add-i : tie.Need-add-i Inv-loop μ-loop
 add-i c = search needs
@@ -37,7 +39,9 @@ loop-less : tie.Need-loop-less Inv-loop μ-loop
 loop-less c = search needs
 
 loop-again : tie.Need-loop-again Inv-loop μ-loop
-loop-again c = (omega arith, c .before .before .before .before .before .loop .inv .1 ∙ digit-here _ _ (c .before .before .before .before .loop-test .taken) (omega (arith, c .before .before .if1 .left)) (omega (arith, c .if2 .left)))
+loop-again c =
+    let t = c .before .before .before .before in
+    (omega arith, t .before .loop .inv .1 ∙ digit-here _ _ (t .loop-test .taken) (omega (arith, c .before .before .if1 .left)) (omega (arith, c .if2 .left)))
 
 returns-3 : tie.Need-returns-3 Inv-loop μ-loop
 returns-3 c = sym (c .before .loop .inv .1 ∙ digits-end _ _ (c .loop-test .left))

@@ -22,7 +22,11 @@ tag-length-requires c κs = search needs
 
 returns-2 : tie.Need-returns-2
 unfolding readElement
-returns-2 c = rw (begins-short (c .before .before .before .before .before .args .octets .now) (tagOf (c .before .before .before .before .before .args .name)) (let e : c .before .tag-length .result ≡ length (tagOf (c .before .before .before .before .before .args .name)) = c .before .tag-length .ensures in omega (arith, c .if2 .taken)))
+returns-2 c =
+    let t = c .before in
+    let a = t .before .before .before .before .args in
+    let e : t .tag-length .result ≡ length (tagOf (a .name)) = t .tag-length .ensures in
+    rw (begins-short (a .octets .now) (tagOf (a .name)) (omega (arith, c .if2 .taken)))
 
 sub-read-length : tie.Need-sub-read-length
 sub-read-length c = search needs
@@ -38,7 +42,12 @@ read-length-requires c κs = search needs
 
 returns-3 : tie.Need-returns-3
 unfolding readElement
-returns-3 c = rw (sym (c .before .before .before .before .before .has-tag .ensures) ∙ not-false _ (c .before .before .before .before .if1 .left), ← c .before .before .before .tag-length .ensures) (rw (rest-cut (c .before .before .before .tag-length .result) (c .before .before .before .before .before .before .before .args .octets .now) (omega (arith, c .before .before .if2 .left))) at (c .read-length .ensures))
+returns-3 c =
+    let t = c .before .before .before in
+    let a = t .before .before .before .before .args in
+    let e = rest-cut (t .tag-length .result) (a .octets .now) (omega (arith, c .before .before .if2 .left)) in
+    rw (sym (t .before .before .has-tag .ensures) ∙ not-false _ (t .before .if1 .left), ← t .tag-length .ensures)
+    (rw e at (c .read-length .ensures))
 
 pub read-element-spec : {M : Type 1} → statement M
 read-element-spec =

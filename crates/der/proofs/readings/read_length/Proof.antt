@@ -7,13 +7,15 @@ use Rattle.der.proofs.readings.read_length.Statement.{statement}
 use Rattle.der.proofs.readings.read_length.Tie as tie
 
 returns : tie.Need-returns
-returns c = sym (length-missing (c .before .before .args .name) (c .before .before .args .form) (c .before .before .args .octets .now) (c .if1 .taken))
+returns c = let a = c .before .before .args in sym (length-missing (a .name) (a .form) (a .octets .now) (c .if1 .taken))
 
 shared-slice-read-count : tie.Need-shared-slice-read-count
 shared-slice-read-count c = search needs
 
 returns-2 : tie.Need-returns-2
-returns-2 c = sym (length-above (c .before .before .before .before .args .name) (c .before .before .before .before .args .form) (c .before .before .before .before .args .octets .now) (c .if2 .taken))
+returns-2 c =
+    let a = c .before .before .before .before .args in
+    sym (length-above (a .name) (a .form) (a .octets .now) (c .if2 .taken))
 
 cast-end : tie.Need-cast-end
 cast-end c = search needs
@@ -22,7 +24,9 @@ add-end : tie.Need-add-end
 add-end c = search needs
 
 returns-3 : tie.Need-returns-3
-returns-3 c = sym (length-beyond (c .before .before .before .before .before .args .name) (c .before .before .before .before .before .args .form) (c .before .before .before .before .before .args .octets .now) (c .if3 .taken))
+returns-3 c =
+    let a = c .before .before .before .before .before .args in
+    sym (length-beyond (a .name) (a .form) (a .octets .now) (c .if3 .taken))
 
 sub-read-contents : tie.Need-sub-read-contents
 sub-read-contents c = search needs
@@ -37,7 +41,11 @@ read-contents-requires : tie.Need-read-contents-requires
 read-contents-requires c κs = search needs
 
 returns-4 : tie.Need-returns-4
-returns-4 c = c .read-contents .ensures ∙ sym (length-within (c .before .before .before .before .before .before .before .args .name) (c .before .before .before .before .before .before .before .args .form) (c .before .before .before .before .before .before .before .args .octets .now) (omega (arith, c .before .before .before .if2 .left)) (omega (arith, c .before .before .if3 .left)))
+returns-4 c =
+    let t = c .before .before in
+    let a = t .before .before .before .before .before .args in
+    let e = length-within (a .name) (a .form) (a .octets .now) (omega (arith, t .before .if2 .left)) (omega (arith, t .if3 .left)) in
+    c .read-contents .ensures ∙ sym e
 
 pub read-length-spec : {M : Type 1} → statement M
 read-length-spec =

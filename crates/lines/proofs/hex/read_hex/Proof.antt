@@ -10,7 +10,8 @@ use Rattle.lines.proofs.hex.read_hex.Statement.{statement}
 use Rattle.lines.proofs.hex.read_hex.Tie as tie
 
 abbrev Inv-loop : tie.InvT-loop
-Inv-loop text buffer₀ n₀ i₀ buffer n i = (i ≡ 2 * n) × (i ≤ length text) × (length buffer ≡ length buffer₀) × (fromHex text ≡ behind (take n buffer) (fromHex (drop i text)))
+Inv-loop text buffer₀ n₀ i₀ buffer n i =
+    (i ≡ 2 * n) × (i ≤ length text) × (length buffer ≡ length buffer₀) × (fromHex text ≡ behind (take n buffer) (fromHex (drop i text)))
 
 abbrev μ-loop : tie.MeasureT-loop
 μ-loop text buffer₀ n₀ i₀ buffer n i = length text - i
@@ -31,7 +32,10 @@ same-length : tie.Need-same-length Inv-loop μ-loop
 same-length c = search needs
 
 returns : tie.Need-returns Inv-loop μ-loop
-returns c = (sym (c .before .before .before .before .loop .inv .3 ∙ ap (behind _) (first-bad _ _ _ (c .before .before .before .loop-test .taken) (c .before .hex-number .ensures) (c .if1 .taken))), omega arith)
+returns c =
+    let loop-test = c .before .before .before .loop-test in
+    let loop = c .before .before .before .before .loop in
+    (sym (loop .inv .3 ∙ ap (behind _) (first-bad _ _ _ (loop-test .taken) (c .before .hex-number .ensures) (c .if1 .taken))), omega arith)
 
 add-hex-number : tie.Need-add-hex-number Inv-loop μ-loop
 add-hex-number c = search needs
@@ -46,7 +50,10 @@ same-length-2 : tie.Need-same-length-2 Inv-loop μ-loop
 same-length-2 c = search needs
 
 returns-2 : tie.Need-returns-2 Inv-loop μ-loop
-returns-2 c = (sym (c .before .before .before .before .before .before .before .loop .inv .3 ∙ ap (behind _) (second-bad _ _ _ (c .before .before .before .before .before .before .loop-test .taken) (c .before .hex-number2 .ensures) (c .if2 .taken))), omega arith)
+returns-2 c =
+    let loop-test = c .before .before .before .before .before .before .loop-test in
+    let loop = c .before .before .before .before .before .before .before .loop in
+    (sym (loop .inv .3 ∙ ap (behind _) (second-bad _ _ _ (loop-test .taken) (c .before .hex-number2 .ensures) (c .if2 .taken))), omega arith)
 
 mul-buffer : tie.Need-mul-buffer Inv-loop μ-loop
 mul-buffer c = search needs
@@ -67,12 +74,18 @@ loop-less : tie.Need-loop-less Inv-loop μ-loop
 loop-less c = search needs
 
 loop-again : tie.Need-loop-again Inv-loop μ-loop
-loop-again c = (
-  omega arith,
-  omega arith,
-  simp length-set (c .before .before .before .before .before .before .before .loop .inv .2),
-  pair-read (c .before .before .before .before .before .before .before .before .before .before .args .text .now) (c .before .before .before .before .before .before .before .loop .i) (c .before .before .before .before .before .before .before .loop .buffer) (c .before .before .before .before .before .before .before .loop .n) (c .before .before .before .before .hex-number .result) (c .before .hex-number2 .result) (c .before .before .before .before .before .before .loop-test .taken) (omega arith) (c .before .before .before .before .hex-number .ensures) (c .before .hex-number2 .ensures) (omega arith) (omega arith) (c .before .before .before .before .before .before .before .loop .inv .3),
-)
+loop-again c =
+    let low = c .before .hex-number2 in
+    let high = c .before .before .before .before .hex-number in
+    let d = c .before .before .before .before .before .before in
+    let loop = d .before .loop in
+    let text = d .before .before .before .before .args .text .now in (
+      omega arith,
+      omega arith,
+      simp length-set (loop .inv .2),
+      pair-read text (loop .i) (loop .buffer) (loop .n) (high .result) (low .result) (d .loop-test .taken) (omega arith) (high .ensures) (low .ensures)
+          (omega arith) (omega arith) (loop .inv .3),
+    )
 
 same-length-3 : tie.Need-same-length-3 Inv-loop μ-loop
 same-length-3 c = search needs

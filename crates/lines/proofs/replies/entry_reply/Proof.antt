@@ -19,7 +19,10 @@ same-length : tie.Need-same-length
 same-length c = search needs
 
 returns : tie.Need-returns
-returns c = rw (sym (c .before .before .before .before .before .gives-octets .ensures) ∙ c .before .before .before .before .if1 .taken) (c .before .before .answer-reply .ensures)
+returns c =
+    let d = c .before .before .before .before in
+    let gives-octets = c .before .before .before .before .before .gives-octets in
+    rw (sym (gives-octets .ensures) ∙ d .if1 .taken) (c .before .before .answer-reply .ensures)
 
 slice-aggregate-read-hex : tie.Need-slice-aggregate-read-hex
 slice-aggregate-read-hex c = search needs

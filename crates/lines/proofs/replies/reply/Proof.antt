@@ -17,7 +17,10 @@ same-length : tie.Need-same-length
 same-length c = search needs
 
 returns-2 : tie.Need-returns-2
-returns-2 c = replied _ _ (c .before .before .before .before .before .if1 .left) (long-line _ (c .before .before .before .before .if2 .taken)) (c .before .before .unasked-reply .ensures .0) (c .before .before .unasked-reply .ensures .1)
+returns-2 c =
+    let d = c .before .before .before .before in
+    let e = c .before .before .before .before .before in
+    replied _ _ (e .if1 .left) (long-line _ (d .if2 .taken)) (c .before .before .unasked-reply .ensures .0) (c .before .before .unasked-reply .ensures .1)
 
 find-requires : tie.Need-find-requires
 find-requires c κs = search needs
@@ -29,7 +32,12 @@ same-length-2 : tie.Need-same-length-2
 same-length-2 c = search needs
 
 returns-3 : tie.Need-returns-3
-returns-3 c = replied _ _ (c .before .before .before .before .before .before .before .if1 .left) (uncut-line _ (c .before .before .before .before .before .find .ensures) (c .before .before .before .before .if3 .taken)) (c .before .before .unasked-reply2 .ensures .0) (c .before .before .unasked-reply2 .ensures .1)
+returns-3 c =
+    let d = c .before .before .before .before in
+    let find = c .before .before .before .before .before .find in
+    let e = c .before .before .before .before .before .before .before in
+    replied _ _ (e .if1 .left) (uncut-line _ (find .ensures) (d .if3 .taken)) (c .before .before .unasked-reply2 .ensures .0)
+    (c .before .before .unasked-reply2 .ensures .1)
 
 slice-aggregate-rest-reply : tie.Need-slice-aggregate-rest-reply
 slice-aggregate-rest-reply c = sym (length-take-le _ _ (omega arith))
@@ -53,7 +61,13 @@ same-length-3 : tie.Need-same-length-3
 same-length-3 c = search needs
 
 returns-4 : tie.Need-returns-4
-returns-4 c = replied _ _ (c .before .before .before .before .before .before .before .before .before .if1 .left) (cut-line _ (c .before .before .before .before .before .before .before .find .ensures) (c .before .before .before .before .before .before .before .before .if2 .left) (c .before .before .before .before .before .before .if3 .left)) (c .before .before .rest-reply .ensures .0) (c .before .before .rest-reply .ensures .1)
+returns-4 c =
+    let d = c .before .before .before .before .before .before in
+    let find = c .before .before .before .before .before .before .before .find in
+    let e = c .before .before .before .before .before .before .before .before in
+    let f = c .before .before .before .before .before .before .before .before .before in
+    replied _ _ (f .if1 .left) (cut-line _ (find .ensures) (e .if2 .left) (d .if3 .left)) (c .before .before .rest-reply .ensures .0)
+    (c .before .before .rest-reply .ensures .1)
 
 pub reply-spec : {M : Type 1} → statement M
 reply-spec =

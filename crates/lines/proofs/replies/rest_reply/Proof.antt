@@ -17,7 +17,10 @@ same-length : tie.Need-same-length
 same-length c = search needs
 
 returns : tie.Need-returns
-returns c = rw (uncut _ _ (c .before .before .before .before .before .find .ensures) (c .before .before .before .before .if1 .taken)) (c .before .before .unasked-reply .ensures)
+returns c =
+    let d = c .before .before .before .before in
+    let find = c .before .before .before .before .before .find in
+    rw (uncut _ _ (find .ensures) (d .if1 .taken)) (c .before .before .unasked-reply .ensures)
 
 slice-aggregate-work-reply : tie.Need-slice-aggregate-work-reply
 slice-aggregate-work-reply c = sym (length-take-le _ _ (omega arith))
@@ -41,7 +44,10 @@ same-length-2 : tie.Need-same-length-2
 same-length-2 c = search needs
 
 returns-2 : tie.Need-returns-2
-returns-2 c = rw (cut _ _ (c .before .before .before .before .before .before .before .find .ensures) (c .before .before .before .before .before .before .if1 .left)) (c .before .before .work-reply .ensures)
+returns-2 c =
+    let d = c .before .before .before .before .before .before in
+    let find = c .before .before .before .before .before .before .before .find in
+    rw (cut _ _ (find .ensures) (d .if1 .left)) (c .before .before .work-reply .ensures)
 
 pub rest-reply-spec : {M : Type 1} → statement M
 rest-reply-spec =

@@ -22,7 +22,10 @@ same-length c = search needs
 
 returns : tie.Need-returns
 unfolding worked
-returns c = rw (sym (c .before .before .before .before .before .before .named .ensures), c .before .before .before .before .enum-told .given .1) (c .before .before .unasked-reply .ensures)
+returns c =
+    let enum-told = c .before .before .before .before .enum-told in
+    let named = c .before .before .before .before .before .before .named in
+    rw (sym (named .ensures), enum-told .given .1) (c .before .before .unasked-reply .ensures)
 
 entry-reply-requires : tie.Need-entry-reply-requires
 entry-reply-requires c κs = search needs
@@ -32,7 +35,10 @@ same-length-2 c = search needs
 
 returns-2 : tie.Need-returns-2
 unfolding worked
-returns-2 c = rw (sym (c .before .before .before .before .before .before .before .named .ensures), c .before .before .before .before .before .entry .given .1) (c .before .before .entry-reply .ensures)
+returns-2 c =
+    let entry = c .before .before .before .before .before .entry in
+    let named = c .before .before .before .before .before .before .before .named in
+    rw (sym (named .ensures), entry .given .1) (c .before .before .entry-reply .ensures)
 
 pub work-reply-spec : {M : Type 1} → statement M
 work-reply-spec =

@@ -24,7 +24,7 @@ Inv-loop out₀ acc held first end n₀ rest₀ out n rest = Inv out₀ first en
 abbrev μ-loop : tie.MeasureT-loop
 μ-loop out₀ acc held first end n₀ rest₀ out n rest = n
 
--- how many whole octets there are
+-- The whole octets, counted.
 count : (c : tie.After-octets Inv-loop μ-loop) → let left = c .before .before .before .before .before .args .left in
     let held = c .before .before .before .begun .result in
     (left .count ≡ 8 * c .octets .result .count + held .count) × (held .count < 8)

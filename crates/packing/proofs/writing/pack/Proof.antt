@@ -1,6 +1,5 @@
 -- `writing::pack` meets its contract, by one word or by groups.
 use mathlib.Core.Path.{_∙_}
-use native.Mathlib.Omega.{arith}
 use Rattle.packing.proofs.Laws.Packed.{packed-fields}
 use Rattle.packing.proofs.Laws.Parts.{layout-parts}
 use borrow.Author.Needs.{needs}

@@ -23,10 +23,18 @@ octets-requires : tie.Need-octets-requires
 octets-requires c κs = search needs
 
 array-share-prefix-own : tie.Need-array-share-prefix-own
-array-share-prefix-own c = let w : length (c .before .before .before .pack .result .octets) ≡ 16 = search needs in omega (arith, packed-short _ _ (c .before .before .before .pack .ensures) (ap (λ (o : Octets). o .count) (c .octets .ensures)))
+array-share-prefix-own c =
+    let w : length (c .before .before .before .pack .result .octets) ≡ 16 = search needs in
+    omega (arith, packed-short _ _ (c .before .before .before .pack .ensures) (ap (λ (o : Octets). o .count) (c .octets .ensures)))
 
 slice-aggregate-encoding : tie.Need-slice-aggregate-encoding
-slice-aggregate-encoding c = sym (length-take-le _ _ (let w : length (c .before .before .before .before .pack .result .octets) ≡ 16 = search needs in omega (arith, packed-short _ _ (c .before .before .before .before .pack .ensures) (ap (λ (o : Octets). o .count) (c .before .octets .ensures)))))
+slice-aggregate-encoding c =
+    let pack = c .before .before .before .before .pack in
+    sym (length-take-le _ _ (let w : length (pack .result .octets) ≡ 16 = search needs in omega (
+      arith,
+      packed-short _ _ (pack .ensures) (ap (λ (o : Octets).
+          o .count) (c .before .octets .ensures)),
+    )))
 
 same-requires : tie.Need-same-requires
 same-requires c κs = search needs
@@ -36,7 +44,16 @@ refused-requires c κs = search needs
 
 returns : tie.Need-returns
 unfolding compared outcomeOf roomOf
-returns c = rw (← c .before .before .before .before .before .before .before .before .row-of .ensures, ← packed-front _ _ (c .before .before .before .before .before .before .before .pack .ensures) (ap (λ (o : Octets). o .count) (c .before .before .before .before .octets .ensures)), sym (c .before .before .same .ensures) ∙ not-true _ (c .before .if1 .taken)) (c .refused .ensures, refl)
+returns c =
+    let octets = c .before .before .before .before .octets in
+    let pack = c .before .before .before .before .before .before .before .pack in
+    let row-of = c .before .before .before .before .before .before .before .before .row-of in
+    rw (
+      ← row-of .ensures,
+      ← packed-front _ _ (pack .ensures) (ap (λ (o : Octets). o .count) (octets .ensures)),
+      sym (c .before .before .same .ensures) ∙
+          not-true _ (c .before .if1 .taken),
+    ) (c .refused .ensures, refl)
 
 deliver-text-requires : tie.Need-deliver-text-requires
 deliver-text-requires c κs = search needs
@@ -46,7 +63,21 @@ same-length c = search needs
 
 returns-2 : tie.Need-returns-2
 unfolding compared
-returns-2 c = rw (← c .before .before .before .before .before .before .before .before .before .before .before .row-of .ensures, ← packed-bits _ _ (c .before .before .before .before .before .before .before .before .before .before .pack .ensures), ← packed-front _ _ (c .before .before .before .before .before .before .before .before .before .before .pack .ensures) (ap (λ (o : Octets). o .count) (c .before .before .before .before .before .before .before .octets .ensures)), sym (c .before .before .before .before .before .same .ensures) ∙ not-false _ (c .before .before .before .before .if1 .left), ← printed-text _ (c .before .before .before .before .before .before .before .before .before .before .before .before .before .before .pre)) (c .before .before .deliver-text .ensures)
+returns-2 c =
+    let d = c .before .before .before .before in
+    let same = c .before .before .before .before .before .same in
+    let octets = c .before .before .before .before .before .before .before .octets in
+    let pack = c .before .before .before .before .before .before .before .before .before .before .pack in
+    let row-of = c .before .before .before .before .before .before .before .before .before .before .before .row-of in
+    let pre = c .before .before .before .before .before .before .before .before .before .before .before .before .before .before .pre in
+    rw (
+      ← row-of .ensures,
+      ← packed-bits _ _ (pack .ensures),
+      ← packed-front _ _ (pack .ensures) (ap (λ (o : Octets). o .count) (octets .ensures)),
+      sym
+          (same .ensures) ∙ not-false _ (d .if1 .left),
+      ← printed-text _ (pre),
+    ) (c .before .before .deliver-text .ensures)
 
 pub compare-spec : {M : Type 1} → statement M
 compare-spec =

@@ -42,7 +42,21 @@ refused-requires-2 c κs = search needs
 
 returns-2 : tie.Need-returns-2
 unfolding decoded judgedOctets outcomeOf roomOf
-returns-2 c = rw (sym (c .before .before .before .before .before .before .before .well-formed .ensures) ∙ not-false _ (c .before .before .before .before .before .before .if1 .left), ← c .before .before .before .before .before .row-of .ensures, ← c .before .before .before .before .form .ensures, bits-read (readOctets (c .before .before .before .before .before .row-of .result) (c .before .before .before .before .form .result) (now (c .before .before .before .before .before .before .before .before .before .before .args .octets))), sym (c .before .before .before .unpack .ensures) ∙ c .before .enum-told .given .1) (c .refused2 .ensures, refl)
+returns-2 c =
+    let unpack = c .before .before .before .unpack in
+    let form = c .before .before .before .before .form in
+    let row-of = c .before .before .before .before .before .row-of in
+    let d = c .before .before .before .before .before .before in
+    let well-formed = c .before .before .before .before .before .before .before .well-formed in
+    let args = c .before .before .before .before .before .before .before .before .before .before .args in
+    rw (
+      sym (well-formed .ensures) ∙ not-false _ (d .if1 .left),
+      ← row-of .ensures,
+      ← form .ensures,
+      bits-read (readOctets (row-of .result) (form .result)
+          (now (args .octets))),
+      sym (unpack .ensures) ∙ c .before .enum-told .given .1,
+    ) (c .refused2 .ensures, refl)
 
 judge-requires : tie.Need-judge-requires
 judge-requires c κs = search needs
@@ -64,11 +78,52 @@ same-length c = search needs
 
 returns-3 : tie.Need-returns-3
 unfolding decoded judgedOctets
-returns-3 c = rw (sym (c .before .before .before .before .before .before .before .before .before .before .before .before .before .before .well-formed .ensures) ∙ not-false _ (c .before .before .before .before .before .before .before .before .before .before .before .before .before .if1 .left), ← c .before .before .before .before .before .before .before .before .before .before .before .before .row-of .ensures, ← c .before .before .before .before .before .before .before .before .before .before .before .form .ensures, bits-read (readOctets (c .before .before .before .before .before .before .before .before .before .before .before .before .row-of .result) (c .before .before .before .before .before .before .before .before .before .before .before .form .result) (now (c .before .before .before .before .before .before .before .before .before .before .before .before .before .before .before .before .before .args .octets))), sym (c .before .before .before .before .before .before .before .before .before .before .unpack .ensures) ∙ c .before .before .before .before .before .before .before .before .value .given .1, per-judged-as _ _ _, sym (c .before .before .before .before .before .before .judge .ensures) ∙ c .before .before .before .before .enum-told2 .given .1) (c .before .before .compare .ensures)
+returns-3 c =
+    let r = c .before .before .before .before .before .before .before .before .before .before in
+    let enum-told2 = c .before .before .before .before .enum-told2 in
+    let judge = c .before .before .before .before .before .before .judge in
+    let value = c .before .before .before .before .before .before .before .before .value in
+    let unpack = r .unpack in
+    let form = r .before .form in
+    let row-of = r .before .before .row-of in
+    let d = r .before .before .before in
+    let well-formed = r .before .before .before .before .well-formed in
+    let args = r .before .before .before .before .before .before .before .args in
+    rw (
+      sym (well-formed .ensures) ∙ not-false _ (d .if1 .left),
+      ← row-of .ensures,
+      ← form .ensures,
+      bits-read (readOctets (row-of .result) (form .result)
+          (now (args .octets))),
+      sym (unpack .ensures) ∙ value .given .1,
+      per-judged-as _ _ _,
+      sym (judge .ensures) ∙ enum-told2 .given .1,
+    )
+    (c .before .before .compare .ensures)
 
 returns-4 : tie.Need-returns-4
 unfolding decoded judgedOctets outcomeOf roomOf
-returns-4 c = rw (sym (c .before .before .before .before .before .before .before .before .before .before .before .before .well-formed .ensures) ∙ not-false _ (c .before .before .before .before .before .before .before .before .before .before .before .if1 .left), ← c .before .before .before .before .before .before .before .before .before .before .row-of .ensures, ← c .before .before .before .before .before .before .before .before .before .form .ensures, bits-read (readOctets (c .before .before .before .before .before .before .before .before .before .before .row-of .result) (c .before .before .before .before .before .before .before .before .before .form .result) (now (c .before .before .before .before .before .before .before .before .before .before .before .before .before .before .before .args .octets))), sym (c .before .before .before .before .before .before .before .before .unpack .ensures) ∙ c .before .before .before .before .before .before .value .given .1, per-judged-as _ _ _, sym (c .before .before .before .before .judge .ensures) ∙ c .before .before .judgement .given .1) (c .refused3 .ensures, refl)
+returns-4 c =
+    let r = c .before .before .before .before .before .before .before .before .before .before in
+    let judge = c .before .before .before .before .judge in
+    let value = c .before .before .before .before .before .before .value in
+    let unpack = c .before .before .before .before .before .before .before .before .unpack in
+    let form = c .before .before .before .before .before .before .before .before .before .form in
+    let row-of = r .row-of in
+    let d = r .before in
+    let well-formed = r .before .before .well-formed in
+    let args = r .before .before .before .before .before .args in
+    rw (
+      sym (well-formed .ensures) ∙ not-false _ (d .if1 .left),
+      ← row-of .ensures,
+      ← form .ensures,
+      bits-read (readOctets (row-of .result) (form .result)
+          (now (args .octets))),
+      sym (unpack .ensures) ∙ value .given .1,
+      per-judged-as _ _ _,
+      sym (judge .ensures) ∙ c .before .before .judgement .given .1,
+    )
+    (c .refused3 .ensures, refl)
 
 pub decode-spec : {M : Type 1} → statement M
 decode-spec =

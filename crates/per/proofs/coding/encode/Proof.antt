@@ -29,11 +29,19 @@ same-length : tie.Need-same-length
 same-length c = search needs
 
 returns : tie.Need-returns
-returns c = rw (per-admitted (c .before .before .before .before .before .before .before .before .before .before .before .args .t) (now (c .before .before .before .before .before .before .before .before .before .before .before .args .text)), sym (c .before .before .before .before .before .before .before .before .admit .ensures) ∙ c .before .before .before .before .before .before .admission .given .1, ← c .before .before .before .before .row-of .ensures) (c .before .before .write-octets .ensures)
+returns c =
+    let row-of = c .before .before .before .before .row-of in
+    let admission = c .before .before .before .before .before .before .admission in
+    let admit = c .before .before .before .before .before .before .before .before .admit in
+    let args = c .before .before .before .before .before .before .before .before .before .before .before .args in
+    rw (per-admitted (args .t) (now (args .text)), sym (admit .ensures) ∙ admission .given .1, ← row-of .ensures) (c .before .before .write-octets .ensures)
 
 returns-2 : tie.Need-returns-2
 unfolding outcomeOf roomOf
-returns-2 c = rw (per-admitted (c .before .before .before .before .before .before .before .args .t) (now (c .before .before .before .before .before .before .before .args .text)), sym (c .before .before .before .before .admit .ensures) ∙ c .before .before .admission2 .given .1) (c .refused .ensures, refl)
+returns-2 c =
+    let admit = c .before .before .before .before .admit in
+    let args = c .before .before .before .before .before .before .before .args in
+    rw (per-admitted (args .t) (now (args .text)), sym (admit .ensures) ∙ c .before .before .admission2 .given .1) (c .refused .ensures, refl)
 
 pub encode-spec : {M : Type 1} → statement M
 encode-spec =

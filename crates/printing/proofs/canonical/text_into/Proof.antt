@@ -21,7 +21,9 @@ same-length : tie.Need-same-length
 same-length c = search needs
 
 returns-3 : tie.Need-returns-3
-returns-3 c = printed _ _ (omega (arith, c .before .before .before .before .before .before .fraction-digits .ensures)) (c .before .before .before .before .if2 .left) (c .before .before .put-value .ensures .0)
+returns-3 c =
+    let i = c .before .before .before .before in
+    printed _ _ (omega (arith, i .before .before .fraction-digits .ensures)) (i .if2 .left) (c .before .before .put-value .ensures .0)
 
 pub text-into-spec : {M : Type 1} → statement M
 text-into-spec =

@@ -76,7 +76,9 @@ same-length-2 c = search needs
 
 returns-3 : tie.Need-returns-3
 unfolding putAfter
-returns-3 c = (rw (c .before .before .before .before .before .before .before .before .before .date2 .given .1) (put-then (c .before .before .before .before .before .before .put-field2 .ensures .0) (c .before .before .put-field3 .ensures .0)), omega arith)
+returns-3 c =
+    let p = c .before .before .before .before .before .before in
+    (rw (p .before .before .before .date2 .given .1) (put-then (p .put-field2 .ensures .0) (c .before .before .put-field3 .ensures .0)), omega arith)
 
 same-length-3 : tie.Need-same-length-3
 same-length-3 c = search needs
@@ -97,7 +99,9 @@ same-length-5 c = search needs
 
 returns-6 : tie.Need-returns-6
 unfolding putAfter
-returns-6 c = (rw (c .before .before .before .before .before .before .before .before .before .date5 .given .1) (put-then (c .before .before .before .before .before .before .put-week2 .ensures .0) (c .before .before .put-field5 .ensures .0)), omega arith)
+returns-6 c =
+    let p = c .before .before .before .before .before .before in
+    (rw (p .before .before .before .date5 .given .1) (put-then (p .put-week2 .ensures .0) (c .before .before .put-field5 .ensures .0)), omega arith)
 
 pub put-after-spec : {M : Type 1} → statement M
 put-after-spec =

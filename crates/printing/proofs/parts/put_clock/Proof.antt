@@ -63,14 +63,20 @@ same-length-2 c = search needs
 
 returns-2 : tie.Need-returns-2
 unfolding putClock
-returns-2 c = (rw (c .before .before .before .before .before .before .before .before .before .clock2 .given .1) (put-then (c .before .before .before .before .before .before .put-digits2 .ensures .0) (c .before .before .put-field .ensures .0)), omega arith)
+returns-2 c =
+    let p = c .before .before .before .before .before .before in
+    (rw (p .before .before .before .clock2 .given .1) (put-then (p .put-digits2 .ensures .0) (c .before .before .put-field .ensures .0)), omega arith)
 
 same-length-3 : tie.Need-same-length-3
 same-length-3 c = search needs
 
 returns-3 : tie.Need-returns-3
 unfolding putClock
-returns-3 c = (rw (c .before .before .before .before .before .before .before .before .before .before .before .before .before .clock3 .given .1) (put-then (c .before .before .before .before .before .before .before .before .before .before .put-digits3 .ensures .0) (put-then (c .before .before .before .before .before .before .put-field2 .ensures .0) (c .before .before .put-field3 .ensures .0))), omega arith)
+returns-3 c =
+    let q = c .before .before .before .before .before .before in
+    let p = q .before .before .before .before in
+    let after = put-then (q .put-field2 .ensures .0) (c .before .before .put-field3 .ensures .0) in
+    (rw (p .before .before .before .clock3 .given .1) (put-then (p .put-digits3 .ensures .0) after), omega arith)
 
 pub put-clock-spec : {M : Type 1} → statement M
 put-clock-spec =

@@ -20,7 +20,9 @@ same-length c = search needs
 
 returns : tie.Need-returns
 unfolding putDate
-returns c = (rw (c .before .before .before .before .before .before .before .year-of .ensures) at (put-then (c .before .before .before .before .before .before .put-year .ensures .0) (c .before .before .put-after .ensures .0)), omega arith)
+returns c =
+    let p = c .before .before .before .before .before .before in
+    (rw (p .before .year-of .ensures) at (put-then (p .put-year .ensures .0) (c .before .before .put-after .ensures .0)), omega arith)
 
 pub put-date-spec : {M : Type 1} → statement M
 put-date-spec =

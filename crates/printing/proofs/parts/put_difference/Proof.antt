@@ -23,7 +23,9 @@ same-length c = search needs
 
 returns : tie.Need-returns
 unfolding putZone
-returns c = (rw (← c .before .before .before .before .before .before .before .before .sign .ensures) (put-then (c .before .before .before .before .before .before .put-field .ensures .0) (c .before .before .put-minutes .ensures .0)), omega arith)
+returns c =
+    let f = c .before .before .before .before .before .before in
+    (rw (← f .before .before .sign .ensures) (put-then (f .put-field .ensures .0) (c .before .before .put-minutes .ensures .0)), omega arith)
 
 pub put-difference-spec : {M : Type 1} → statement M
 put-difference-spec =

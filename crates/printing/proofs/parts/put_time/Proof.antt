@@ -20,7 +20,10 @@ same-length c = search needs
 
 returns : tie.Need-returns
 unfolding putTime
-returns c = (put-then (c .before .before .before .before .before .before .before .before .before .before .put-clock .ensures .0) (put-then (c .before .before .before .before .before .before .put-fraction .ensures .0) (c .before .before .put-zone .ensures .0)), omega arith)
+returns c =
+    let q = c .before .before .before .before .before .before in
+    let after = put-then (q .put-fraction .ensures .0) (c .before .before .put-zone .ensures .0) in
+    (put-then (q .before .before .before .before .put-clock .ensures .0) after, omega arith)
 
 pub put-time-spec : {M : Type 1} → statement M
 put-time-spec =

@@ -33,7 +33,9 @@ add-put-time : tie.Need-add-put-time
 add-put-time c = search needs
 
 put-time-requires-2 : tie.Need-put-time-requires-2
-put-time-requires-2 c κs = ((rw (c .before .before .before .before .before .before .value3 .given .1) at (c .before .before .before .before .before .before .before .before .before .pre .0)), simp length-set (omega arith))
+put-time-requires-2 c κs =
+    let v = c .before .before .before .before .before .before in
+    ((rw (v .value3 .given .1) at (v .before .before .before .pre .0)), simp length-set (omega arith))
 
 same-length : tie.Need-same-length
 same-length c = search needs
@@ -54,7 +56,10 @@ same-length-3 c = (simp length-set at (c .before .before .put-time2 .kept .0)) �
 
 returns-3 : tie.Need-returns-3
 unfolding render
-returns-3 c = (rw (c .before .before .before .before .before .before .before .before .before .value3 .given .1) (put-then (c .before .before .before .before .before .before .put-date2 .ensures .0) (put-octet (c .before .before .put-time2 .ensures .0))), omega arith)
+returns-3 c =
+    let p = c .before .before .before .before .before .before in
+    let after = put-octet (c .before .before .put-time2 .ensures .0) in
+    (rw (p .before .before .before .value3 .given .1) (put-then (p .put-date2 .ensures .0) after), omega arith)
 
 pub put-value-spec : {M : Type 1} → statement M
 put-value-spec =

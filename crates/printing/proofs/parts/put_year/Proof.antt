@@ -1,6 +1,7 @@
 -- `parts::put_year` meets its contract.
 use native.Mathlib.Omega.{arith}
 use borrow.Author.Tests.{lt-ltb, le-ltb}
+use Rattle.calendar.specs.Years.{astronomicalOf}
 use Rattle.printing.proofs.Laws.Canonical.{text-before, text-since}
 use borrow.Author.Needs.{needs}
 use Rattle.printing.proofs.parts.put_year.Statement.{statement}
@@ -28,7 +29,12 @@ same-length : tie.Need-same-length
 same-length c = search needs
 
 returns : tie.Need-returns
-returns c = (rw (text-since _ (c .before .before .before .before .before .before .before .before .distance .ensures) (c .before .before .before .before .before .before .distance3 .given .1), lt-ltb _ _ (c .before .before .before .before .if1 .taken)) (c .before .before .put-digits .ensures .0), omega arith)
+returns c =
+    let i = c .before .before .before .before in
+    let n = i .before .before in
+    let d = n .before .before in
+    let e = text-since (astronomicalOf (d .before .before .args .year)) (d .distance .ensures) (n .distance3 .given .1) in
+    (rw (e, lt-ltb _ _ (i .if1 .taken)) (c .before .before .put-digits .ensures .0), omega arith)
 
 year-digits-requires-2 : tie.Need-year-digits-requires-2
 year-digits-requires-2 c κs = search needs
@@ -40,13 +46,24 @@ same-length-2 : tie.Need-same-length-2
 same-length-2 c = search needs
 
 returns-2 : tie.Need-returns-2
-returns-2 c = (rw (text-before _ (c .before .before .before .before .before .before .before .before .distance .ensures) (c .before .before .before .before .before .before .distance2 .given .1), ← c .before .before .before .before .year-digits .ensures .0) (c .before .before .put-field .ensures .0), omega arith)
+returns-2 c =
+    let w = c .before .before .before .before in
+    let n = w .before .before in
+    let d = n .before .before in
+    let e = text-before (astronomicalOf (d .before .before .args .year)) (d .distance .ensures) (n .distance2 .given .1) in
+    (rw (e, ← w .year-digits .ensures .0) (c .before .before .put-field .ensures .0), omega arith)
 
 same-length-3 : tie.Need-same-length-3
 same-length-3 c = search needs
 
 returns-3 : tie.Need-returns-3
-returns-3 c = (rw (text-since _ (c .before .before .before .before .before .before .before .before .before .distance .ensures) (c .before .before .before .before .before .before .before .distance3 .given .1), le-ltb _ _ (c .before .before .before .before .before .if1 .left), ← c .before .before .before .before .year-digits2 .ensures .0) (c .before .before .put-field2 .ensures .0), omega arith)
+returns-3 c =
+    let w = c .before .before .before .before in
+    let i = w .before in
+    let n = i .before .before in
+    let d = n .before .before in
+    let e = text-since (astronomicalOf (d .before .before .args .year)) (d .distance .ensures) (n .distance3 .given .1) in
+    (rw (e, le-ltb _ _ (i .if1 .left), ← w .year-digits2 .ensures .0) (c .before .before .put-field2 .ensures .0), omega arith)
 
 pub put-year-spec : {M : Type 1} → statement M
 put-year-spec =

@@ -21,7 +21,11 @@ has-place-requires c κs = search needs
 
 returns-2 : tie.Need-returns-2
 unfolding usable datedList timedList
-returns-2 c = rw (not-false (c .before .before .before .before .before .args .list .readable) (c .before .before .before .if1 .left)) (simp (c .before .before .list-has-date .ensures, c .before .list-has-time .ensures) at (c .has-place .ensures))
+returns-2 c =
+    let d = c .before .before .before in
+    let args = c .before .before .before .before .before .args in
+    rw (not-false (args .list .readable) (d .if1 .left)) (simp (c .before .before .list-has-date .ensures, c .before .list-has-time .ensures) at
+    (c .has-place .ensures))
 
 pub is-usable-spec : {M : Type 1} → statement M
 is-usable-spec =

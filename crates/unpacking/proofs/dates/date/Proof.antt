@@ -29,7 +29,16 @@ day-requires c κs = omega (arith, ap integerPlace (c .before .before .years .gi
 
 returns-2 : tie.Need-returns-2
 unfolding readDate
-returns-2 c = ((rw (c .before .year-at .ensures) at (c .day .ensures .0)) ∙ sym (step (seenInteger _) _ _ _ (c .before .before .before .before .before .year .ensures .0) (c .before .before .before .years .given .1)), omega (arith, ap integerPlace (c .before .before .before .years .given .1)))
+returns-2 c =
+    let years = c .before .before .before .years in
+    let year = c .before .before .before .before .before .year in (
+      (rw (c .before .year-at .ensures) at (c .day .ensures .0)) ∙ sym (step (seenInteger _) _ _ _ (year .ensures .0) (years .given .1)),
+      omega (
+        arith,
+        ap
+            integerPlace (years .given .1),
+      ),
+    )
 
 pub date-spec : {M : Type 1} → statement M
 date-spec =

@@ -28,7 +28,9 @@ enum-told-3 c = search needs
 
 returns : tie.Need-returns
 unfolding readDay
-returns c = (rw (c .before .before .before .enum-told2 .given .1) (sym (step (seen _) (aRanged 12) _ _ (c .before .before .ranged .ensures .0) (c .enum-told3 .given .1))), omega arith)
+returns c =
+    let enum-told2 = c .before .before .before .enum-told2 in
+    (rw (enum-told2 .given .1) (sym (step (seen _) (aRanged 12) _ _ (c .before .before .ranged .ensures .0) (c .enum-told3 .given .1))), omega arith)
 
 add-t15 : tie.Need-add-t15
 add-t15 c = omega (arith, ap numberRead (c .before .month .given .1))
@@ -54,7 +56,9 @@ enum-told-6 c = search needs
 
 returns-2 : tie.Need-returns-2
 unfolding readDay
-returns-2 c = (rw (c .before .before .before .enum-told5 .given .1) (sym (step (seen _) (aRanged 366) _ _ (c .before .before .ranged2 .ensures .0) (c .enum-told6 .given .1))), omega arith)
+returns-2 c =
+    let enum-told5 = c .before .before .before .enum-told5 in
+    (rw (enum-told5 .given .1) (sym (step (seen _) (aRanged 366) _ _ (c .before .before .ranged2 .ensures .0) (c .enum-told6 .given .1))), omega arith)
 
 add-t19 : tie.Need-add-t19
 add-t19 c = omega (arith, ap numberRead (c .before .day .given .1))
@@ -74,7 +78,9 @@ enum-told-8 c = search needs
 
 returns-3 : tie.Need-returns-3
 unfolding readDay
-returns-3 c = (rw (c .before .before .before .enum-told7 .given .1) (sym (step (seen _) (aRanged 53) _ _ (c .before .before .ranged3 .ensures .0) (c .enum-told8 .given .1))), omega arith)
+returns-3 c =
+    let enum-told7 = c .before .before .before .enum-told7 in
+    (rw (enum-told7 .given .1) (sym (step (seen _) (aRanged 53) _ _ (c .before .before .ranged3 .ensures .0) (c .enum-told8 .given .1))), omega arith)
 
 add-t23 : tie.Need-add-t23
 add-t23 c = omega (arith, ap numberRead (c .before .week .given .1))
@@ -91,18 +97,45 @@ returns-4 c = (rw (c .enum-told .given .1) (sym (run-give _ _)), omega arith)
 
 returns-5 : tie.Need-returns-5
 unfolding readDay
-returns-5 c = (rw (c .before .before .before .before .enum-told2 .given .1) (sym (step (seen _) (aRanged 12) _ _ (c .before .before .before .ranged .ensures .0) (c .before .month .given .1) ∙ run-give _ _)), omega (arith, ap place (c .before .month .given .1)))
+returns-5 c =
+    let ranged = c .before .before .before .ranged in
+    let enum-told2 = c .before .before .before .before .enum-told2 in (
+      rw (enum-told2 .given .1) (sym (step (seen _) (aRanged 12) _ _ (ranged .ensures .0) (c .before .month .given .1) ∙ run-give _ _)),
+      omega (
+        arith,
+        ap place
+            (c .before .month .given .1),
+      ),
+    )
 
 returns-6 : tie.Need-returns-6
 returns-6 c = (rw (c .before .enum-told4 .given .1) (c .month-and-day .ensures .0), c .month-and-day .ensures .1)
 
 returns-7 : tie.Need-returns-7
 unfolding readDay
-returns-7 c = (rw (c .before .before .before .before .enum-told5 .given .1) (sym (step (seen _) (aRanged 366) _ _ (c .before .before .before .ranged2 .ensures .0) (c .before .day .given .1) ∙ run-give _ _)), omega (arith, ap place (c .before .day .given .1)))
+returns-7 c =
+    let ranged2 = c .before .before .before .ranged2 in
+    let enum-told5 = c .before .before .before .before .enum-told5 in (
+      rw (enum-told5 .given .1) (sym (step (seen _) (aRanged 366) _ _ (ranged2 .ensures .0) (c .before .day .given .1) ∙ run-give _ _)),
+      omega (
+        arith,
+        ap place
+            (c .before .day .given .1),
+      ),
+    )
 
 returns-8 : tie.Need-returns-8
 unfolding readDay
-returns-8 c = (rw (c .before .before .before .before .enum-told7 .given .1) (sym (step (seen _) (aRanged 53) _ _ (c .before .before .before .ranged3 .ensures .0) (c .before .week .given .1) ∙ run-give _ _)), omega (arith, ap place (c .before .week .given .1)))
+returns-8 c =
+    let ranged3 = c .before .before .before .ranged3 in
+    let enum-told7 = c .before .before .before .before .enum-told7 in (
+      rw (enum-told7 .given .1) (sym (step (seen _) (aRanged 53) _ _ (ranged3 .ensures .0) (c .before .week .given .1) ∙ run-give _ _)),
+      omega (
+        arith,
+        ap place
+            (c .before .week .given .1),
+      ),
+    )
 
 returns-9 : tie.Need-returns-9
 returns-9 c = (rw (c .before .enum-told9 .given .1) (c .week-and-weekday .ensures .0), c .week-and-weekday .ensures .1)

@@ -25,7 +25,9 @@ add-t9 c = omega (arith, ap numberRead (c .before .number .given .1))
 
 returns-2 : tie.Need-returns-2
 unfolding nearYear
-returns-2 c = (sym (step (seen _) _ _ _ (c .before .before .before .ranged .ensures .0) (c .before .number .given .1) ∙ run-give _ _), omega (arith, ap place (c .before .number .given .1)))
+returns-2 c =
+    let ranged = c .before .before .before .ranged in
+    (sym (step (seen _) _ _ _ (ranged .ensures .0) (c .before .number .given .1) ∙ run-give _ _), omega (arith, ap place (c .before .number .given .1)))
 
 pub near-year-spec : {M : Type 1} → statement M
 near-year-spec =

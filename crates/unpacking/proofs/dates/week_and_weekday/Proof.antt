@@ -36,7 +36,13 @@ enum-told-2 c = search needs
 
 returns-2 : tie.Need-returns-2
 unfolding readDay
-returns-2 c = (sym (step (seen _) (aRanged 53) _ _ (c .before .before .before .before .before .before .ranged .ensures .0) (c .before .before .before .before .week .given .1) ∙ step (seen _) (aRanged 7) _ _ (c .before .before .ranged2 .ensures .0) (c .enum-told2 .given .1)), omega arith)
+returns-2 c =
+    let week = c .before .before .before .before .week in
+    let ranged = c .before .before .before .before .before .before .ranged in (
+      sym (step (seen _) (aRanged 53) _ _ (ranged .ensures .0) (week .given .1) ∙ step (seen _) (aRanged 7) _ _ (c .before .before .ranged2 .ensures .0)
+          (c .enum-told2 .given .1)),
+      omega arith,
+    )
 
 add-t11 : tie.Need-add-t11
 add-t11 c = omega (arith, ap numberRead (c .before .before .before .before .before .week .given .1))
@@ -46,7 +52,14 @@ add-t12 c = omega (arith, ap numberRead (c .before .weekday .given .1))
 
 returns-3 : tie.Need-returns-3
 unfolding readDay
-returns-3 c = (sym (step (seen _) (aRanged 53) _ _ (c .before .before .before .before .before .before .before .ranged .ensures .0) (c .before .before .before .before .before .week .given .1) ∙ step (seen _) (aRanged 7) _ _ (c .before .before .before .ranged2 .ensures .0) (c .before .weekday .given .1) ∙ run-give _ _), omega (arith, ap place (c .before .before .before .before .before .week .given .1), ap place (c .before .weekday .given .1)))
+returns-3 c =
+    let ranged2 = c .before .before .before .ranged2 in
+    let week = c .before .before .before .before .before .week in
+    let ranged = c .before .before .before .before .before .before .before .ranged in (
+      sym (step (seen _) (aRanged 53) _ _ (ranged .ensures .0) (week .given .1) ∙ step (seen _) (aRanged 7) _ _ (ranged2 .ensures .0)
+          (c .before .weekday .given .1) ∙ run-give _ _),
+      omega (arith, ap place (week .given .1), ap place (c .before .weekday .given .1)),
+    )
 
 pub week-and-weekday-spec : {M : Type 1} → statement M
 week-and-weekday-spec =

@@ -25,7 +25,9 @@ enum-told-2 c = search needs
 
 returns : tie.Need-returns
 unfolding readYear
-returns c = (rw (c .before .before .before .enum-told .given .1) (sym (step (seen _) (aRanged 4) _ _ (c .before .before .ranged .ensures .0) (c .enum-told2 .given .1))), omega arith)
+returns c =
+    let enum-told = c .before .before .before .enum-told in
+    (rw (enum-told .given .1) (sym (step (seen _) (aRanged 4) _ _ (c .before .before .ranged .ensures .0) (c .enum-told2 .given .1))), omega arith)
 
 chosen-year-requires : tie.Need-chosen-year-requires
 chosen-year-requires c κs = omega (arith, ap place (c .before .choice .given .1))
@@ -38,7 +40,12 @@ free-requires c κs = search needs
 
 returns-2 : tie.Need-returns-2
 unfolding readYear
-returns-2 c = (rw (c .before .before .before .before .before .enum-told .given .1) (c .chosen-year .ensures .0 ∙ sym (step (seen _) (aRanged 4) _ _ (c .before .before .before .before .ranged .ensures .0) (c .before .before .choice .given .1))), omega (arith, ap place (c .before .before .choice .given .1)))
+returns-2 c =
+    let ranged = c .before .before .before .before .ranged in
+    let enum-told = c .before .before .before .before .before .enum-told in (
+      rw (enum-told .given .1) (c .chosen-year .ensures .0 ∙ sym (step (seen _) (aRanged 4) _ _ (ranged .ensures .0) (c .before .before .choice .given .1))),
+      omega (arith, ap place (c .before .before .choice .given .1)),
+    )
 
 returns-3 : tie.Need-returns-3
 unfolding readYear

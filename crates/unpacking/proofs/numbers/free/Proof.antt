@@ -33,7 +33,9 @@ returns : tie.Need-returns
 returns c = (rw (free-by _ (told (seen _) (c .before .before .field .ensures .0) (c .enum-told .given .1))), omega arith)
 
 returns-2 : tie.Need-returns-2
-returns-2 c = (rw (free-none _ (told (seen _) (c .before .before .before .before .field .ensures .0) (c .before .before .length .given .1)) (λ l h. omega arith)), omega arith)
+returns-2 c =
+    let field = c .before .before .before .before .field in
+    (rw (free-none _ (told (seen _) (field .ensures .0) (c .before .before .length .given .1)) (λ l h. omega arith)), omega arith)
 
 field-requires-2 : tie.Need-field-requires-2
 field-requires-2 c κs = omega (arith, ap place (c .before .before .length .given .1), width-is c)
@@ -45,7 +47,17 @@ enum-told-2 : tie.Need-enum-told-2
 enum-told-2 c = search needs
 
 returns-3 : tie.Need-returns-3
-returns-3 c = (rw (free-some _ (told (seen _) (c .before .before .before .before .before .before .before .field .ensures .0) (c .before .before .before .before .before .length .given .1)) _ (width-is (c .before .before .before)), told (seen _) (c .before .before .field2 .ensures .0) (c .enum-told2 .given .1)), omega arith)
+returns-3 c =
+    let d = c .before .before .before in
+    let length = c .before .before .before .before .before .length in
+    let field = c .before .before .before .before .before .before .before .field in (
+      rw (
+        free-some _ (told (seen _) (field .ensures .0) (length .given .1)) _ (width-is (d)),
+        told (seen _) (c .before .before .field2 .ensures .0)
+            (c .enum-told2 .given .1),
+      ),
+      omega arith,
+    )
 
 signed-requires : tie.Need-signed-requires
 signed-requires c κs =
@@ -55,7 +67,14 @@ signed-requires c κs =
 returns-4 : tie.Need-returns-4
 returns-4 c =
     let w = width-is (c .before .before .before .before .before) in
-    (rw (free-some _ (told (seen _) (c .before .before .before .before .before .before .before .before .before .field .ensures .0) (c .before .before .before .before .before .before .before .length .given .1)) _ w, told (seen _) (c .before .before .before .before .field2 .ensures .0) (c .before .before .number .given .1), c .signed .ensures .0), omega (arith, c .signed .ensures .1, ap place (c .before .before .before .before .before .before .before .length .given .1), ap place (c .before .before .number .given .1)))
+    let signed = c .signed .ensures in
+    let number = c .before .before .number .given .1 in
+    let field2 = c .before .before .before .before .field2 .ensures .0 in
+    let d = c .before .before .before .before .before .before .before in
+    let length = d .length .given .1 in (
+      rw (free-some _ (told (seen _) (d .before .before .field .ensures .0) length) _ w, told (seen _) field2 number, signed .0),
+      omega (arith, signed .1, ap place length, ap place number),
+    )
 
 pub free-spec : {M : Type 1} → statement M
 free-spec =

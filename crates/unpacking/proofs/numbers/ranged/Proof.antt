@@ -19,13 +19,27 @@ enum-told : tie.Need-enum-told
 enum-told c = search needs
 
 returns : tie.Need-returns
-returns c = (rw (ranged-by _ _ _ (c .before .before .before .before .pre .1 .1) (told (seen _) (c .before .before .field .ensures .0) (c .enum-told .given .1))), omega arith)
+returns c =
+    let pre = c .before .before .before .before .pre in
+    (rw (ranged-by _ _ _ (pre .1 .1) (told (seen _) (c .before .before .field .ensures .0) (c .enum-told .given .1))), omega arith)
 
 returns-2 : tie.Need-returns-2
-returns-2 c = (rw (ranged-by _ _ _ (c .before .before .before .before .before .before .pre .1 .1) (told (seen _) (c .before .before .before .before .field .ensures .0) (c .before .before .number .given .1)), lt-ltb _ _ (c .if1 .taken)), omega (arith, ap place (c .before .before .number .given .1)))
+returns-2 c =
+    let field = c .before .before .before .before .field in
+    let pre = c .before .before .before .before .before .before .pre in (
+      rw (ranged-by _ _ _ (pre .1 .1) (told (seen _) (field .ensures .0) (c .before .before .number .given .1)), lt-ltb _ _ (c .if1 .taken)),
+      omega (
+        arith,
+        ap
+            place (c .before .before .number .given .1),
+      ),
+    )
 
 returns-3 : tie.Need-returns-3
-returns-3 c = (rw (ranged-by _ _ _ (c .before .before .before .before .before .before .pre .1 .1) (told (seen _) (c .before .before .before .before .field .ensures .0) (c .before .before .number .given .1)), le-ltb _ _ (c .if1 .left)), omega arith)
+returns-3 c =
+    let field = c .before .before .before .before .field in
+    let pre = c .before .before .before .before .before .before .pre in
+    (rw (ranged-by _ _ _ (pre .1 .1) (told (seen _) (field .ensures .0) (c .before .before .number .given .1)), le-ltb _ _ (c .if1 .left)), omega arith)
 
 pub ranged-spec : {M : Type 1} → statement M
 ranged-spec =

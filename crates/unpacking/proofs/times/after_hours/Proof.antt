@@ -27,7 +27,9 @@ enum-told-3 c = search needs
 
 returns : tie.Need-returns
 unfolding afterHours
-returns c = (rw (c .before .before .before .enum-told2 .given .1) (sym (step (seen _) (aRanged 60) _ _ (c .before .before .ranged .ensures .0) (c .enum-told3 .given .1))), omega arith)
+returns c =
+    let enum-told2 = c .before .before .before .enum-told2 in
+    (rw (enum-told2 .given .1) (sym (step (seen _) (aRanged 60) _ _ (c .before .before .ranged .ensures .0) (c .enum-told3 .given .1))), omega arith)
 
 enum-told-4 : tie.Need-enum-told-4
 enum-told-4 c = search needs
@@ -44,7 +46,9 @@ enum-told-5 c = search needs
 
 returns-2 : tie.Need-returns-2
 unfolding afterHours
-returns-2 c = (rw (c .before .before .before .enum-told4 .given .1) (sym (step (seen _) (aRanged 60) _ _ (c .before .before .ranged2 .ensures .0) (c .enum-told5 .given .1))), omega arith)
+returns-2 c =
+    let enum-told4 = c .before .before .before .enum-told4 in
+    (rw (enum-told4 .given .1) (sym (step (seen _) (aRanged 60) _ _ (c .before .before .ranged2 .ensures .0) (c .enum-told5 .given .1))), omega arith)
 
 ranged-requires-3 : tie.Need-ranged-requires-3
 unfolding width binaryDigits
@@ -58,7 +62,14 @@ enum-told-6 c = search needs
 
 returns-3 : tie.Need-returns-3
 unfolding afterHours
-returns-3 c = (rw (c .before .before .before .before .before .before .before .enum-told4 .given .1) (sym (step (seen _) (aRanged 60) _ _ (c .before .before .before .before .before .before .ranged2 .ensures .0) (c .before .before .before .before .minutes2 .given .1) ∙ step (seen _) (aRanged 61) _ _ (c .before .before .ranged3 .ensures .0) (c .enum-told6 .given .1))), omega arith)
+returns-3 c =
+    let minutes2 = c .before .before .before .before .minutes2 in
+    let ranged2 = c .before .before .before .before .before .before .ranged2 in
+    let enum-told4 = c .before .before .before .before .before .before .before .enum-told4 in (
+      rw (enum-told4 .given .1) (sym (step (seen _) (aRanged 60) _ _ (ranged2 .ensures .0) (minutes2 .given .1) ∙ step (seen _) (aRanged 61) _ _
+          (c .before .before .ranged3 .ensures .0) (c .enum-told6 .given .1))),
+      omega arith,
+    )
 
 returns-4 : tie.Need-returns-4
 unfolding afterHours
@@ -66,11 +77,33 @@ returns-4 c = (rw (c .enum-told .given .1) (sym (run-give _ _)), omega arith)
 
 returns-5 : tie.Need-returns-5
 unfolding afterHours
-returns-5 c = (rw (c .before .before .before .before .enum-told2 .given .1) (sym (step (seen _) (aRanged 60) _ _ (c .before .before .before .ranged .ensures .0) (c .before .minutes .given .1) ∙ run-give _ _)), omega (arith, ap place (c .before .minutes .given .1)))
+returns-5 c =
+    let ranged = c .before .before .before .ranged in
+    let enum-told2 = c .before .before .before .before .enum-told2 in (
+      rw (enum-told2 .given .1) (sym (step (seen _) (aRanged 60) _ _ (ranged .ensures .0) (c .before .minutes .given .1) ∙ run-give _ _)),
+      omega (
+        arith,
+        ap
+            place (c .before .minutes .given .1),
+      ),
+    )
 
 returns-6 : tie.Need-returns-6
 unfolding afterHours
-returns-6 c = (rw (c .before .before .before .before .before .before .before .before .enum-told4 .given .1) (sym (step (seen _) (aRanged 60) _ _ (c .before .before .before .before .before .before .before .ranged2 .ensures .0) (c .before .before .before .before .before .minutes2 .given .1) ∙ step (seen _) (aRanged 61) _ _ (c .before .before .before .ranged3 .ensures .0) (c .before .seconds .given .1) ∙ run-give _ _)), omega (arith, ap place (c .before .before .before .before .before .minutes2 .given .1), ap place (c .before .seconds .given .1)))
+returns-6 c =
+    let ranged3 = c .before .before .before .ranged3 in
+    let minutes2 = c .before .before .before .before .before .minutes2 in
+    let ranged2 = c .before .before .before .before .before .before .before .ranged2 in
+    let enum-told4 = c .before .before .before .before .before .before .before .before .enum-told4 in (
+      rw (enum-told4 .given .1) (sym (step (seen _) (aRanged 60) _ _ (ranged2 .ensures .0) (minutes2 .given .1) ∙ step (seen _) (aRanged 61) _ _
+          (ranged3 .ensures .0) (c .before .seconds .given .1) ∙ run-give _ _)),
+      omega (
+        arith,
+        ap place (minutes2 .given .1),
+        ap place
+            (c .before .seconds .given .1),
+      ),
+    )
 
 pub after-hours-spec : {M : Type 1} → statement M
 after-hours-spec =

@@ -27,7 +27,12 @@ after-hours-requires : tie.Need-after-hours-requires
 after-hours-requires c κs = omega (arith, ap place (c .before .hours .given .1))
 
 returns-2 : tie.Need-returns-2
-returns-2 c = (rw clock-hours (c .after-hours .ensures .0 ∙ sym (step (seen _) (aRanged 25) _ _ (c .before .before .before .before .ranged .ensures .0) (c .before .before .hours .given .1))), omega (arith, ap place (c .before .before .hours .given .1)))
+returns-2 c =
+    let ranged = c .before .before .before .before .ranged in (
+      rw clock-hours (c .after-hours .ensures .0 ∙ sym (step (seen _) (aRanged 25) _ _ (ranged .ensures .0) (c .before .before .hours .given .1))),
+      omega
+          (arith, ap place (c .before .before .hours .given .1)),
+    )
 
 pub clock-spec : {M : Type 1} → statement M
 clock-spec =

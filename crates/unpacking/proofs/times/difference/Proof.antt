@@ -36,7 +36,11 @@ enum-told-2 c = search needs
 
 returns-2 : tie.Need-returns-2
 unfolding readZone
-returns-2 c = sym (step (seen _) (aRanged 2) _ _ (c .before .before .before .before .before .before .ranged .ensures .0) (c .before .before .before .before .present .given .1) ∙ step (seen _) (aRanged 32) _ _ (c .before .before .ranged2 .ensures .0) (c .enum-told2 .given .1))
+returns-2 c =
+    let present = c .before .before .before .before .present in
+    let ranged = c .before .before .before .before .before .before .ranged in
+    sym (step (seen _) (aRanged 2) _ _ (ranged .ensures .0) (present .given .1) ∙ step (seen _) (aRanged 32) _ _ (c .before .before .ranged2 .ensures .0)
+    (c .enum-told2 .given .1))
 
 minutes-requires : tie.Need-minutes-requires
 minutes-requires c κs = omega (arith, ap place (c .before .before .before .before .before .present .given .1), ap place (c .before .hours .given .1))
@@ -49,14 +53,27 @@ enum-told-3 c = search needs
 
 returns-3 : tie.Need-returns-3
 unfolding readZone
-returns-3 c = sym (step (seen _) (aRanged 2) _ _ (c .before .before .before .before .before .before .before .before .before .before .ranged .ensures .0) (c .before .before .before .before .before .before .before .before .present .given .1) ∙ step (seen _) (aRanged 32) _ _ (c .before .before .before .before .before .before .ranged2 .ensures .0) (c .before .before .before .before .hours .given .1) ∙ step (seen _) _ _ _ (c .before .before .minutes .ensures) (c .enum-told3 .given .1))
+returns-3 c =
+    let hours = c .before .before .before .before .hours in
+    let ranged2 = c .before .before .before .before .before .before .ranged2 in
+    let present = c .before .before .before .before .before .before .before .before .present in
+    let ranged = c .before .before .before .before .before .before .before .before .before .before .ranged in
+    sym (step (seen _) (aRanged 2) _ _ (ranged .ensures .0) (present .given .1) ∙ step (seen _) (aRanged 32) _ _ (ranged2 .ensures .0) (hours .given .1) ∙
+    step (seen _) _ _ _ (c .before .before .minutes .ensures) (c .enum-told3 .given .1))
 
 difference-at-requires : tie.Need-difference-at-requires
 difference-at-requires c κs = search needs
 
 returns-4 : tie.Need-returns-4
 unfolding readZone
-returns-4 c = rw (c .difference-at .ensures) (sym (step (seen _) (aRanged 2) _ _ (c .before .before .before .before .before .before .before .before .before .before .before .before .ranged .ensures .0) (c .before .before .before .before .before .before .before .before .before .before .present .given .1) ∙ step (seen _) (aRanged 32) _ _ (c .before .before .before .before .before .before .before .before .ranged2 .ensures .0) (c .before .before .before .before .before .before .hours .given .1) ∙ step (seen _) _ _ _ (c .before .before .before .before .minutes .ensures) (c .before .before .minutes2 .given .1) ∙ run-give _ _))
+returns-4 c =
+    let minutes = c .before .before .before .before .minutes in
+    let hours = c .before .before .before .before .before .before .hours in
+    let ranged2 = c .before .before .before .before .before .before .before .before .ranged2 in
+    let present = c .before .before .before .before .before .before .before .before .before .before .present in
+    let ranged = c .before .before .before .before .before .before .before .before .before .before .before .before .ranged in
+    rw (c .difference-at .ensures) (sym (step (seen _) (aRanged 2) _ _ (ranged .ensures .0) (present .given .1) ∙ step (seen _) (aRanged 32) _ _
+    (ranged2 .ensures .0) (hours .given .1) ∙ step (seen _) _ _ _ (minutes .ensures) (c .before .before .minutes2 .given .1) ∙ run-give _ _))
 
 pub difference-spec : {M : Type 1} → statement M
 difference-spec =

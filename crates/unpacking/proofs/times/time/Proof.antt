@@ -32,7 +32,11 @@ enum-told-2 c = search needs
 
 returns-2 : tie.Need-returns-2
 unfolding readTime
-returns-2 c = sym (step (seenClock _) _ _ _ (c .before .before .before .before .before .before .clock .ensures .0) (c .before .before .before .before .clock2 .given .1) ∙ step (seen _) _ _ _ (c .before .before .fraction .ensures .0) (c .enum-told2 .given .1))
+returns-2 c =
+    let clock2 = c .before .before .before .before .clock2 in
+    let clock = c .before .before .before .before .before .before .clock in
+    sym (step (seenClock _) _ _ _ (clock .ensures .0) (clock2 .given .1) ∙ step (seen _) _ _ _ (c .before .before .fraction .ensures .0)
+    (c .enum-told2 .given .1))
 
 zone-requires : tie.Need-zone-requires
 zone-requires c κs = omega (arith, ap clockPlace (c .before .before .before .before .before .clock2 .given .1), ap place (c .before .fraction2 .given .1))
@@ -45,11 +49,24 @@ enum-told-3 c = search needs
 
 returns-3 : tie.Need-returns-3
 unfolding readTime
-returns-3 c = sym (step (seenClock _) _ _ _ (c .before .before .before .before .before .before .before .before .before .before .clock .ensures .0) (c .before .before .before .before .before .before .before .before .clock2 .given .1) ∙ step (seen _) _ _ _ (c .before .before .before .before .before .before .fraction .ensures .0) (c .before .before .before .before .fraction2 .given .1) ∙ step (seenZone _) _ _ _ (c .before .before .zone .ensures) (c .enum-told3 .given .1))
+returns-3 c =
+    let fraction2 = c .before .before .before .before .fraction2 in
+    let fraction = c .before .before .before .before .before .before .fraction in
+    let clock2 = c .before .before .before .before .before .before .before .before .clock2 in
+    let clock = c .before .before .before .before .before .before .before .before .before .before .clock in
+    sym (step (seenClock _) _ _ _ (clock .ensures .0) (clock2 .given .1) ∙ step (seen _) _ _ _ (fraction .ensures .0) (fraction2 .given .1) ∙ step (seenZone
+    _) _ _ _ (c .before .before .zone .ensures) (c .enum-told3 .given .1))
 
 returns-4 : tie.Need-returns-4
 unfolding readTime
-returns-4 c = sym (step (seenClock _) _ _ _ (c .before .before .before .before .before .before .before .before .before .before .before .clock .ensures .0) (c .before .before .before .before .before .before .before .before .before .clock2 .given .1) ∙ step (seen _) _ _ _ (c .before .before .before .before .before .before .before .fraction .ensures .0) (c .before .before .before .before .before .fraction2 .given .1) ∙ step (seenZone _) _ _ _ (c .before .before .before .zone .ensures) (c .before .zone2 .given .1) ∙ run-give _ _)
+returns-4 c =
+    let zone = c .before .before .before .zone in
+    let fraction2 = c .before .before .before .before .before .fraction2 in
+    let fraction = c .before .before .before .before .before .before .before .fraction in
+    let clock2 = c .before .before .before .before .before .before .before .before .before .clock2 in
+    let clock = c .before .before .before .before .before .before .before .before .before .before .before .clock in
+    sym (step (seenClock _) _ _ _ (clock .ensures .0) (clock2 .given .1) ∙ step (seen _) _ _ _ (fraction .ensures .0) (fraction2 .given .1) ∙ step (seenZone
+    _) _ _ _ (zone .ensures) (c .before .zone2 .given .1) ∙ run-give _ _)
 
 pub time-spec : {M : Type 1} → statement M
 time-spec =

@@ -33,11 +33,20 @@ enum-told-2 c = search needs
 
 returns-2 : tie.Need-returns-2
 unfolding readOctets readValue
-returns-2 c = ap valueIn (sym (step (seenDate _) _ _ _ (c .before .before .before .before .before .before .date .ensures .0) (c .before .before .before .before .date2 .given .1) ∙ step (seenTime _) _ _ _ (c .before .before .time .ensures) (c .enum-told2 .given .1)))
+returns-2 c =
+    let date2 = c .before .before .before .before .date2 in
+    let date = c .before .before .before .before .before .before .date in
+    ap valueIn (sym (step (seenDate _) _ _ _ (date .ensures .0) (date2 .given .1) ∙ step (seenTime _) _ _ _ (c .before .before .time .ensures)
+    (c .enum-told2 .given .1)))
 
 returns-3 : tie.Need-returns-3
 unfolding readOctets readValue
-returns-3 c = ap valueIn (sym (step (seenDate _) _ _ _ (c .before .before .before .before .before .before .before .date .ensures .0) (c .before .before .before .before .before .date2 .given .1) ∙ step (seenTime _) _ _ _ (c .before .before .before .time .ensures) (c .before .time2 .given .1) ∙ run-give _ _))
+returns-3 c =
+    let time = c .before .before .before .time in
+    let date2 = c .before .before .before .before .before .date2 in
+    let date = c .before .before .before .before .before .before .before .date in
+    ap valueIn (sym (step (seenDate _) _ _ _ (date .ensures .0) (date2 .given .1) ∙ step (seenTime _) _ _ _ (time .ensures) (c .before .time2 .given .1) ∙
+    run-give _ _))
 
 pub read-date-time-spec : {M : Type 1} → statement M
 read-date-time-spec =

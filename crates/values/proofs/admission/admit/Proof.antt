@@ -27,7 +27,11 @@ enum-told c = search needs
 
 returns-2 : tie.Need-returns-2
 unfolding admitted
-returns-2 c = rw (sym (c .before .before .before .before .before .well-formed .ensures) ∙ not-false _ (c .before .before .before .before .if1 .left), ← c .before .before .before .form .ensures, sym (c .before .before .read-text .ensures) ∙ c .enum-told .given .1)
+returns-2 c =
+    let form = c .before .before .before .form in
+    let d = c .before .before .before .before in
+    let well-formed = c .before .before .before .before .before .well-formed in
+    rw (sym (well-formed .ensures) ∙ not-false _ (d .if1 .left), ← form .ensures, sym (c .before .before .read-text .ensures) ∙ c .enum-told .given .1)
 
 judge-requires : tie.Need-judge-requires
 judge-requires c κs = search needs
@@ -40,11 +44,36 @@ enum-known-judgement c = search needs
 
 returns-3 : tie.Need-returns-3
 unfolding admitted
-returns-3 c = rw (sym (c .before .before .before .before .before .before .before .before .before .well-formed .ensures) ∙ not-false _ (c .before .before .before .before .before .before .before .before .if1 .left), ← c .before .before .before .before .before .before .before .form .ensures, sym (c .before .before .before .before .before .before .read-text .ensures) ∙ c .before .before .before .before .value .given .1, sym (c .before .before .judge .ensures) ∙ c .enum-told2 .given .1)
+returns-3 c =
+    let value = c .before .before .before .before .value in
+    let read-text = c .before .before .before .before .before .before .read-text in
+    let form = c .before .before .before .before .before .before .before .form in
+    let d = c .before .before .before .before .before .before .before .before in
+    let well-formed = c .before .before .before .before .before .before .before .before .before .well-formed in
+    rw (
+      sym (well-formed .ensures) ∙ not-false _ (d .if1 .left),
+      ← form .ensures,
+      sym (read-text .ensures) ∙ value .given .1,
+      sym
+          (c .before .before .judge .ensures) ∙ c .enum-told2 .given .1,
+    )
 
 returns-4 : tie.Need-returns-4
 unfolding admitted
-returns-4 c = rw (sym (c .before .before .before .before .before .before .before .before .before .before .well-formed .ensures) ∙ not-false _ (c .before .before .before .before .before .before .before .before .before .if1 .left), ← c .before .before .before .before .before .before .before .before .form .ensures, sym (c .before .before .before .before .before .before .before .read-text .ensures) ∙ c .before .before .before .before .before .value .given .1, sym (c .before .before .before .judge .ensures) ∙ c .before .judgement .given .1)
+returns-4 c =
+    let judge = c .before .before .before .judge in
+    let value = c .before .before .before .before .before .value in
+    let read-text = c .before .before .before .before .before .before .before .read-text in
+    let form = c .before .before .before .before .before .before .before .before .form in
+    let d = c .before .before .before .before .before .before .before .before .before in
+    let well-formed = c .before .before .before .before .before .before .before .before .before .before .well-formed in
+    rw (
+      sym (well-formed .ensures) ∙ not-false _ (d .if1 .left),
+      ← form .ensures,
+      sym (read-text .ensures) ∙ value .given .1,
+      sym (judge .ensures) ∙
+          c .before .judgement .given .1,
+    )
 
 pub admit-spec : {M : Type 1} → statement M
 admit-spec =

@@ -18,11 +18,15 @@ in-type-requires c κs = search needs
 
 returns-2 : tie.Need-returns-2
 unfolding judged
-returns-2 c = rw (sym (c .before .before .before .value-exists .ensures) ∙ not-false _ (c .before .before .if1 .left), sym (c .before .in-type .ensures) ∙ c .if2 .taken)
+returns-2 c =
+    let value-exists = c .before .before .before .value-exists in
+    rw (sym (value-exists .ensures) ∙ not-false _ (c .before .before .if1 .left), sym (c .before .in-type .ensures) ∙ c .if2 .taken)
 
 returns-3 : tie.Need-returns-3
 unfolding judged
-returns-3 c = rw (sym (c .before .before .before .value-exists .ensures) ∙ not-false _ (c .before .before .if1 .left), sym (c .before .in-type .ensures) ∙ c .if2 .left)
+returns-3 c =
+    let value-exists = c .before .before .before .value-exists in
+    rw (sym (value-exists .ensures) ∙ not-false _ (c .before .before .if1 .left), sym (c .before .in-type .ensures) ∙ c .if2 .left)
 
 pub judge-spec : {M : Type 1} → statement M
 judge-spec =

@@ -35,7 +35,14 @@ returns-3 : tie.Need-returns-3
 returns-3 c = simp (c .before .before .value2 .given .1, c .time-exists .ensures)
 
 returns-4 : tie.Need-returns-4
-returns-4 c = simp (c .before .before .before .before .value3 .given .1, ← c .before .before .date-exists2 .ensures, not-false (c .before .before .date-exists2 .result) (c .before .if1 .left), c .time-exists2 .ensures)
+returns-4 c =
+    let value3 = c .before .before .before .before .value3 in
+    simp (
+      value3 .given .1,
+      ← c .before .before .date-exists2 .ensures,
+      not-false (c .before .before .date-exists2 .result) (c .before .if1 .left),
+      c .time-exists2 .ensures,
+    )
 
 pub value-exists-spec : {M : Type 1} → statement M
 value-exists-spec =

@@ -78,11 +78,25 @@ returns-8 c = simp (c .before .before .before .parts3 .given .1, c .enum-told6 .
 
 returns-9 : tie.Need-returns-9
 returns-9 c =
-    let d = c .before .before in
-    simp (date-time-in (c .before .before .before .before .before .before .before .before .before .args .parts) _ (c .before .before .before .before .before .before .before .parts3 .given .1) (c .before .before .before .before .value3 .given .1), ← d .date-in2 .ensures, c .before .if1 .taken, c .time-in2 .ensures)
+    let date = c .before .before in
+    let value = date .before .before in
+    let parts = value .before .before .before in
+    simp (
+      date-time-in (parts .before .before .args .parts) _ (parts .parts3 .given .1) (value .value3 .given .1),
+      ← date .date-in2 .ensures,
+      c .before .if1 .taken,
+      c .time-in2 .ensures,
+    )
 
 returns-10 : tie.Need-returns-10
-returns-10 c = simp (date-time-in (c .before .before .before .before .before .before .before .before .args .parts) _ (c .before .before .before .before .before .before .parts3 .given .1) (c .before .before .before .value3 .given .1), ← c .before .date-in2 .ensures, c .if1 .left)
+returns-10 c =
+    let value = c .before .before .before in
+    let parts = value .before .before .before in
+    simp (
+      date-time-in (parts .before .before .args .parts) _ (parts .parts3 .given .1) (value .value3 .given .1),
+      ← c .before .date-in2 .ensures,
+      c .if1 .left,
+    )
 
 pub in-parts-spec : {M : Type 1} → statement M
 in-parts-spec =

@@ -16,10 +16,17 @@ text-into-requires : tie.Need-text-into-requires
 text-into-requires c κs = search needs
 
 array-share-prefix-buffer : tie.Need-array-share-prefix-buffer
-array-share-prefix-buffer c = let w : length (c .before .text-into .last .1 .0) ≡ textCapacity = search needs in omega (arith, text-short _ _ (omega arith) (c .before .text-into .ensures .0))
+array-share-prefix-buffer c =
+    let w : length (c .before .text-into .last .1 .0) ≡ textCapacity = search needs in
+    omega (arith, text-short _ _ (omega arith) (c .before .text-into .ensures .0))
 
 slice-aggregate-deliver : tie.Need-slice-aggregate-deliver
-slice-aggregate-deliver c = sym (length-take-le _ _ (let w : length (c .before .before .text-into .last .1 .0) ≡ textCapacity = search needs in omega (arith, text-short _ _ (omega arith) (c .before .before .text-into .ensures .0))))
+slice-aggregate-deliver c =
+    sym (length-take-le _ _ (let w : length (c .before .before .text-into .last .1 .0) ≡ textCapacity = search needs in omega (
+      arith,
+      text-short _ _ (omega
+          arith) (c .before .before .text-into .ensures .0),
+    )))
 
 deliver-requires : tie.Need-deliver-requires
 deliver-requires c κs = search needs
@@ -28,7 +35,9 @@ same-length : tie.Need-same-length
 same-length c = search needs
 
 returns : tie.Need-returns
-returns c = rw (← text-taken _ _ (omega arith) (c .before .before .before .before .before .before .text-into .ensures .0) (c .before .before .before .before .before .before .text-into .ensures .1)) (c .before .before .deliver .ensures)
+returns c =
+    let text-into = c .before .before .before .before .before .before .text-into in
+    rw (← text-taken _ _ (omega arith) (text-into .ensures .0) (text-into .ensures .1)) (c .before .before .deliver .ensures)
 
 pub deliver-text-spec : {M : Type 1} → statement M
 deliver-text-spec =

@@ -26,7 +26,11 @@ same-length c = search needs
 
 returns-2 : tie.Need-returns-2
 unfolding written
-returns-2 c = rw (sym (c .before .before .before .before .before .value-exists .ensures) ∙ not-false _ (c .before .before .before .before .if1 .left), ← printed-text _ (sym (c .before .before .before .before .before .value-exists .ensures) ∙ not-false _ (c .before .before .before .before .if1 .left))) (c .before .before .deliver-text .ensures)
+returns-2 c =
+    let d = c .before .before .before .before in
+    let value-exists = c .before .before .before .before .before .value-exists in
+    rw (sym (value-exists .ensures) ∙ not-false _ (d .if1 .left), ← printed-text _ (sym (value-exists .ensures) ∙ not-false _ (d .if1 .left)))
+    (c .before .before .deliver-text .ensures)
 
 pub write-text-spec : {M : Type 1} → statement M
 write-text-spec =
