@@ -13,7 +13,8 @@ use borrow.Author.Tests.{eqb-true, eqb-false}
 use Rattle.octets.specs.Octets.{bytes, eqList}
 use Rattle.octets.proofs.Laws.Cases.{by-test, both, cond-le}
 use Rattle.octets.proofs.Laws.Octets.{equal}
-use Rattle.lists.specs.Words.{Has, Table, basicWords, clockWords, counted, dateWords, firstNumber, firstOf, fractionNumber, fractionWords, pair, pairOf, placeFrom, placeIn, yearWords, zoneWords}
+use Rattle.lists.specs.Words.{Has, Table, counted, firstNumber, firstOf, fractionNumber, pair, pairOf, placeFrom, placeIn}
+use Rattle.lists.specs.Words.{basicWords, clockWords, dateWords, fractionWords, yearWords, zoneWords}
 
 -- What a table of m words holds from a place on, behind k of them: words among which the text has the place n.
 pub record Left (t l : List ℕ) (m at k n : ℕ) : Type 0 where

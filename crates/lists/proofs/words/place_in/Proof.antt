@@ -24,7 +24,8 @@ add-word : tie.Need-add-word Inv-loop μ-loop
 add-word c = omega (arith, next-within (c .before .before .before .before .pre) (c .before .loop .inv) (c .loop-test .taken))
 
 shared-slice-read-end : tie.Need-shared-slice-read-end Inv-loop μ-loop
-shared-slice-read-end c = omega (arith, next-within (c .before .before .before .before .before .pre) (c .before .before .loop .inv) (c .before .loop-test .taken))
+shared-slice-read-end c =
+    omega (arith, next-within (c .before .before .before .before .before .pre) (c .before .before .loop .inv) (c .before .loop-test .taken))
 
 cast-end : tie.Need-cast-end Inv-loop μ-loop
 cast-end c = omega (arith, c .shared-slice-known3 .given (c .before .before .loop .at))
