@@ -121,7 +121,10 @@ tags =
     date Name.Listed (Date.YM (yearAt (pos 2006)) 13) "0E07323030362D3133" ∷
     date Name.Listed (Date.YWD (yearAt (pos 2006)) 24 8) "0E0A323030362D5732342D38" ∷
     date Name.Date (Date.YMD (yearAt (pos 2006)) 13 1) "1F1F083230303631333031" ∷
-    time Name.TimeOfDay (Clock.HMS 25 0 0) 0 0 Zone.L "1F2006323530303030" ∷ []
+    time Name.TimeOfDay (Clock.HMS 25 0 0) 0 0 Zone.L "1F2006323530303030" ∷
+    -- "octets left over"
+    looseDate Name.Date (Date.YMD (yearAt (pos 2006)) 6 13) "1F1F08323030363036313300" ∷
+    looseTime Name.TimeOfDay (Clock.HMS 15 27 46) 0 0 Zone.L "1F2006313532373436FF" ∷ []
 
 tags-checked : made tags ≡ said tags
 unfolding tags said made
@@ -143,8 +146,6 @@ spellings-checked = refl
 leftOver : List Row
 leftOver =
     -- "octets left over"
-    looseDate Name.Date (Date.YMD (yearAt (pos 2006)) 6 13) "1F1F08323030363036313300" ∷
-    looseTime Name.TimeOfDay (Clock.HMS 15 27 46) 0 0 Zone.L "1F2006313532373436FF" ∷
     looseBoth Name.DateTime (Date.YMD (yearAt (pos 2006)) 6 13) (Clock.HMS 15 27 46) 0 0 Zone.L "1F210E32303036303631333135323734360E00" ∷
     looseDate Name.Listed (Date.Y (yearAt (pos 2006))) "0E04323030362D3036" ∷ []
 
