@@ -1,4 +1,4 @@
-// Reading an element: what its octets give at a form, however they should have been written. Octets after it are left.
+// An element is read here: what its octets give at a form, however they should have been written. Octets after it are left.
 ghost use mathlib.Core.Path.{_≡_};
 ghost use mathlib.Core.Bool.{true, cond};
 ghost use Prim.Native.Nat.{_+_, _≤_};

@@ -1,11 +1,11 @@
-// The tags. Each stands here once, to be written and to be compared with.
+// Each tag stands here once, to be written and to be compared with.
 ghost use mathlib.Core.Path.{_≡_};
 ghost use Prim.Native.Nat.{_≤_};
 ghost use lib.ListN.{length, take};
 ghost use Rattle.der_elements.specs.Elements.{tagOf};
 use types::Name;
 
-// A tag: so many of the octets.
+// A tag is the first so many of two octets.
 pub(crate) struct Tag {
     pub(crate) octets: [u8; 2],
     pub(crate) length: usize,

@@ -41,7 +41,7 @@ behind hours minutes = Zone.LD (record { behind = true; hours = hours; minutes =
 abbrev at : Clock → ℕ → ℕ → Zone → Time
 at clock digits fraction zone = record { clock = clock; digits = digits; fraction = fraction; zone = zone }
 
--- The form of TIME-OF-DAY, a useful time type (X.680 34 bis.4).
+-- The form of a local time of hours, minutes and seconds.
 abbrev localTime : TimeForm
 localTime = record { clock = ClockForm.HMS; digits = 0; zone = ZoneForm.L }
 
@@ -178,7 +178,7 @@ unreadable =
     noTime Name.TimeOfDay "1F200631353237343A" ∷
     noBoth Name.DateTime "1F210F323030363036313354313532373436" ∷
     noBoth Name.DateTime "1F210D32303036303631333135323734" ∷
-    -- contents that are not of the form, in full
+    -- These contents are not of the form in full.
     noDate Name.Listed "0E083230303630363133" ∷
     noDate Name.Listed "0E0B323030362D30362D31335A" ∷
     noTime Name.Listed "0E06313532373436" ∷ []

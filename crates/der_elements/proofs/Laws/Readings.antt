@@ -171,7 +171,7 @@ module _ (name : Name) (o : List ℕ) {n : ℕ} (w : length o ≡ 2) (e : take n
       go (a ∷ []) q = absurd (omega arith)
       go (a ∷ b ∷ l) q = refl
 
--- Enough octets begin with one or with two that are theirs.
+-- Whether enough octets begin with one octet, or with two.
 pub begins-one : (l : List ℕ) (a : ℕ) → 1 ≤ length l → eqList (take 1 l) (a ∷ []) ≡ eqb (getD l 0 0) a
 unfolding eqList
 begins-one [] a h = absurd (omega arith)
