@@ -15,7 +15,6 @@ use answers::Bits;
 use answers::Octets;
 use answers::Outcome;
 use answers::Refusal;
-use octets::put_octets;
 use printing::TEXT_CAPACITY;
 use printing::text_into;
 use texts::Value;
@@ -108,7 +107,12 @@ fn put_tag(room: &mut [u8], name: Name) -> usize
     let tag = tag_of(name);
     let octets = tag.octets;
     let count = tag.length;
-    put_octets(room, 0, &octets[..count])
+    room[0] = octets[0];
+    if count == 1 {
+        return count;
+    }
+    room[1] = octets[1];
+    count
 }
 
 // Puts the element of a text at the front: the tag, the length, and so many octets of contents.

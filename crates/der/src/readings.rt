@@ -1,4 +1,4 @@
-// Reading an element: what its octets give at a form, however they should have been written. Octets after it are left.
+// An element is read here: what its octets give at a form, however they should have been written. Octets after it are left.
 ghost use mathlib.Core.Path.{_≡_};
 ghost use mathlib.Core.Bool.{true, cond};
 ghost use Prim.Native.Nat.{_+_, _≤_};
@@ -14,7 +14,6 @@ ghost use Rattle.der_elements.specs.Readings.{allDigits, digitsOnly, separated,
 use crate::tags::tag_length;
 use crate::tags::tag_of;
 use octets::put_octets;
-use octets::same;
 use reading::read_text;
 use texts::Form;
 use texts::TextRead;
@@ -118,17 +117,6 @@ fn read_length(name: Name, form: Form, octets: &[u8]) -> TextRead
     read_contents(name, form, &octets[1..end])
 }
 
-// Whether octets begin with these.
-fn begins(octets: &[u8], front: &[u8]) -> bool
-    ensures { λ r. ⌜ r ≡ eqList (take (length (now (front .entry))) (now (octets .entry))) (now (front .entry)) ⌝ }
-{
-    let count = front.len();
-    if octets.len() < count {
-        return false;
-    }
-    same(&octets[..count], front)
-}
-
 // Whether octets begin with the tag.
 fn has_tag(name: Name, octets: &[u8]) -> bool
     ensures { λ r. ⌜ r ≡ eqList (take (length (tagOf name)) (now (octets .entry))) (tagOf name) ⌝ }
@@ -136,7 +124,16 @@ fn has_tag(name: Name, octets: &[u8]) -> bool
     let tag = tag_of(name);
     let front = tag.octets;
     let count = tag.length;
-    begins(octets, &front[..count])
+    if octets.len() < count {
+        return false;
+    }
+    if count == 1 {
+        return octets[0] == front[0];
+    }
+    if octets[0] != front[0] {
+        return false;
+    }
+    octets[1] == front[1]
 }
 
 // Reads an element: tag, length and contents.

@@ -1,11 +1,11 @@
-// The tags. Each stands here once, to be written and to be compared with.
+// Each tag stands here once, to be written and to be compared with.
 ghost use mathlib.Core.Path.{_≡_};
 ghost use Prim.Native.Nat.{_≤_};
 ghost use lib.ListN.{length, take};
 ghost use Rattle.der_elements.specs.Elements.{tagOf};
 use types::Name;
 
-// A tag: so many of the octets.
+// A tag is the first so many of two octets.
 pub(crate) struct Tag {
     pub(crate) octets: [u8; 2],
     pub(crate) length: usize,
@@ -14,7 +14,7 @@ pub(crate) struct Tag {
 // The tag of any settings list is 0E; those of the useful time types (X.680 34 bis.4) are 1F 1F for DATE, 1F 20 for
 // TIME-OF-DAY and 1F 21 for DATE-TIME.
 pub(crate) fn tag_of(name: Name) -> Tag
-    ensures { λ r. ⌜ (take (r .length) (r .octets) ≡ tagOf name) × (r .length ≡ length (tagOf name)) × (r .length ≤ 2) ⌝ }
+    ensures { λ r. ⌜ (take (r .length) (r .octets) ≡ tagOf name) × (r .length ≡ length (tagOf name)) × (1 ≤ r .length) × (r .length ≤ 2) ⌝ }
 {
     match name {
         Name::Listed => Tag {

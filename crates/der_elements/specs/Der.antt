@@ -22,7 +22,7 @@ noBits = record { count = 0 }
 abbrev pub inDer : Encoding Name
 inDer = record { row = nameOf; encoding = elementOf; count = λ name v. noBits; readOctets = readElement }
 
--- Dates and times in it.
+-- Dates and times are a kind of value in it.
 abbrev pub der : Kind Ty Form Name Value
 der = encodedBy inDer
 

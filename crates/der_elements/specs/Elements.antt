@@ -9,7 +9,8 @@ use Rattle.texts.specs.Texts.{textOf}
 use Rattle.texts.specs.declared.values.Value.{Value}
 use Rattle.types.specs.declared.types.Name.{Name}
 
--- "Any settings list: tag 0E, .. DATE: 1F 1F, .. TIME-OF-DAY: 1F 20, .. DATE-TIME: 1F 21"
+-- "Any settings list: tag 0E, .. DATE: 1F 1F, .. TIME-OF-DAY: 1F 20, .. DATE-TIME: 1F 21"; these three are the useful time types
+-- (X.680 34 bis.4).
 abbrev pub tagOf : Name → List ℕ
 tagOf Name.Listed = 14 ∷ []
 tagOf Name.Date = 31 ∷ 31 ∷ []

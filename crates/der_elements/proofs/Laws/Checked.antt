@@ -41,7 +41,7 @@ behind hours minutes = Zone.LD (record { behind = true; hours = hours; minutes =
 abbrev at : Clock → ℕ → ℕ → Zone → Time
 at clock digits fraction zone = record { clock = clock; digits = digits; fraction = fraction; zone = zone }
 
--- The form of TIME-OF-DAY, a useful time type (X.680 34 bis.4).
+-- The form of a local time of hours, minutes and seconds.
 abbrev localTime : TimeForm
 localTime = record { clock = ClockForm.HMS; digits = 0; zone = ZoneForm.L }
 
@@ -121,7 +121,10 @@ tags =
     date Name.Listed (Date.YM (yearAt (pos 2006)) 13) "0E07323030362D3133" ∷
     date Name.Listed (Date.YWD (yearAt (pos 2006)) 24 8) "0E0A323030362D5732342D38" ∷
     date Name.Date (Date.YMD (yearAt (pos 2006)) 13 1) "1F1F083230303631333031" ∷
-    time Name.TimeOfDay (Clock.HMS 25 0 0) 0 0 Zone.L "1F2006323530303030" ∷ []
+    time Name.TimeOfDay (Clock.HMS 25 0 0) 0 0 Zone.L "1F2006323530303030" ∷
+    -- "octets left over"
+    looseDate Name.Date (Date.YMD (yearAt (pos 2006)) 6 13) "1F1F08323030363036313300" ∷
+    looseTime Name.TimeOfDay (Clock.HMS 15 27 46) 0 0 Zone.L "1F2006313532373436FF" ∷ []
 
 tags-checked : made tags ≡ said tags
 unfolding tags said made
@@ -143,8 +146,6 @@ spellings-checked = refl
 leftOver : List Row
 leftOver =
     -- "octets left over"
-    looseDate Name.Date (Date.YMD (yearAt (pos 2006)) 6 13) "1F1F08323030363036313300" ∷
-    looseTime Name.TimeOfDay (Clock.HMS 15 27 46) 0 0 Zone.L "1F2006313532373436FF" ∷
     looseBoth Name.DateTime (Date.YMD (yearAt (pos 2006)) 6 13) (Clock.HMS 15 27 46) 0 0 Zone.L "1F210E32303036303631333135323734360E00" ∷
     looseDate Name.Listed (Date.Y (yearAt (pos 2006))) "0E04323030362D3036" ∷ []
 
@@ -177,7 +178,7 @@ unreadable =
     noTime Name.TimeOfDay "1F200631353237343A" ∷
     noBoth Name.DateTime "1F210F323030363036313354313532373436" ∷
     noBoth Name.DateTime "1F210D32303036303631333135323734" ∷
-    -- contents that are not of the form, in full
+    -- These contents are not of the form in full.
     noDate Name.Listed "0E083230303630363133" ∷
     noDate Name.Listed "0E0B323030362D30362D31335A" ∷
     noTime Name.Listed "0E06313532373436" ∷ []

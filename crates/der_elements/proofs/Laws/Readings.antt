@@ -1,6 +1,6 @@
 -- These are steps of the code that reads an element.
 use mathlib.Core.Path.{_≡_, refl, ap, sym, _∙_}
-use mathlib.Core.Bool.{true, false, and-false}
+use mathlib.Core.Bool.{true, false, _&&_, and-false, and-true}
 use mathlib.Core.List.{List, [], _∷_, _++_, append-nil}
 use Prim.Native.Nat.{ℕ, _+_, _-_, _≤_, _<_}
 use native.Mathlib.Numerals.{add-one}
@@ -18,6 +18,7 @@ use mathlib.Core.Option.{none}
 use Rattle.texts.specs.Octets.{colon, hyphen, letterT}
 use Rattle.texts.specs.declared.forms.Form.{Form}
 use Rattle.types.specs.declared.types.Name.{Name}
+use Rattle.der_elements.specs.Elements.{tagOf}
 use Rattle.der_elements.specs.Readings.{allDigits, dated, digitsOnly, readContents, readLength, separated, timed}
 
 -- A digit leaves the rest to decide, and any other octet decides.
@@ -150,6 +151,37 @@ module _ (name : Name) (form : Form) where
       → readLength name form l ≡ readContents name form (take (getD l 0 0 + 1 - 1) (drop 1 l))
   length-within [] h k = absurd (omega arith)
   length-within (c ∷ l) h k = let e : c + 1 - 1 ≡ c = omega arith in rw (le-leb c 127 h, le-leb c (length l) (omega arith), e)
+
+-- ---- the tag
+
+-- A tag is the first n of two octets: one, or both.
+module _ (name : Name) (o : List ℕ) {n : ℕ} (w : length o ≡ 2) (e : take n o ≡ tagOf name) where
+  pub short-tag : n ≡ 1 → tagOf name ≡ getD o 0 0 ∷ []
+  short-tag h = sym e ∙ rw h (go o w)
+    where
+      go : (l : List ℕ) → length l ≡ 2 → take 1 l ≡ getD l 0 0 ∷ []
+      go [] q = absurd (omega arith)
+      go (a ∷ l) q = refl
+
+  pub long-tag : n ≡ 2 → tagOf name ≡ getD o 0 0 ∷ getD o 1 0 ∷ []
+  long-tag h = sym e ∙ rw h (go o w)
+    where
+      go : (l : List ℕ) → length l ≡ 2 → take 2 l ≡ getD l 0 0 ∷ getD l 1 0 ∷ []
+      go [] q = absurd (omega arith)
+      go (a ∷ []) q = absurd (omega arith)
+      go (a ∷ b ∷ l) q = refl
+
+-- Whether enough octets begin with one octet, or with two.
+pub begins-one : (l : List ℕ) (a : ℕ) → 1 ≤ length l → eqList (take 1 l) (a ∷ []) ≡ eqb (getD l 0 0) a
+unfolding eqList
+begins-one [] a h = absurd (omega arith)
+begins-one (c ∷ l) a h = rw and-true
+
+pub begins-two : (l : List ℕ) (a b : ℕ) → 2 ≤ length l → eqList (take 2 l) (a ∷ b ∷ []) ≡ (eqb (getD l 0 0) a && eqb (getD l 1 0) b)
+unfolding eqList
+begins-two [] a b h = absurd (omega arith)
+begins-two (c ∷ []) a b h = absurd (omega arith)
+begins-two (c ∷ d ∷ l) a b h = rw and-true
 
 -- Too few octets begin with nothing longer.
 pub begins-short : (octets front : List ℕ) → length octets < length front → eqList (take (length front) octets) front ≡ false
