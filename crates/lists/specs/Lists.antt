@@ -33,31 +33,31 @@ unfoldable pub addPairs : Settings → List (List ℕ) → Settings
 addPairs s [] = s
 addPairs s (w ∷ ws) = addPairs (addPair s (pairOf w)) ws
 
--- The number of each property's setting: Basic, ..
+-- The number of a list's Basic setting.
 abbrev pub basicIn : Settings → ℕ
 basicIn s = getD (s .numbers) 0 0
 
--- .. Date, ..
+-- The number of a list's Date setting.
 abbrev pub dateIn : Settings → ℕ
 dateIn s = getD (s .numbers) 1 0
 
--- .. Year, ..
+-- The number of a list's Year setting.
 abbrev pub yearIn : Settings → ℕ
 yearIn s = getD (s .numbers) 2 0
 
--- .. Time, ..
+-- The number of a list's Time setting.
 abbrev pub timeIn : Settings → ℕ
 timeIn s = getD (s .numbers) 3 0
 
--- .. and Local-or-UTC.
+-- The number of a list's Local-or-UTC setting.
 abbrev pub zoneIn : Settings → ℕ
 zoneIn s = getD (s .numbers) 4 0
 
--- A list has a date unless its Basic is Time, ..
+-- A list has a date unless its Basic is Time.
 unfoldable pub datedList : Settings → Bool
 datedList s = not (eqb (basicIn s) 2)
 
--- .. and a time unless its Basic is Date.
+-- A list has a time unless its Basic is Date.
 unfoldable pub timedList : Settings → Bool
 timedList s = not (eqb (basicIn s) 1)
 

@@ -14,7 +14,7 @@ unfoldable pub placeFrom : ℕ → List String → List ℕ → ℕ
 placeFrom k [] l = 0
 placeFrom k (w ∷ ws) l = cond (eqList l (bytes w)) k (placeFrom (suc k) ws l)
 
--- The same, counted from 1.
+-- The place of a text among words that are counted from 1.
 abbrev pub placeIn : List String → List ℕ → ℕ
 placeIn = placeFrom 1
 
@@ -27,11 +27,11 @@ counted (w ∷ ws) = length (bytes w) ∷ (bytes w ++ counted ws)
 abbrev pub Has : List ℕ → ℕ → List String → Type 0
 Has t n ws = (t ≡ counted ws) × (length ws ≡ n)
 
--- A table has so many words, ..
+-- A table has so many words.
 abbrev pub Table : List ℕ → ℕ → Type 0
 Table t n = (ws : List String) × Has t n ws
 
--- .. and the place of a text in it is that among its words.
+-- The place of a text in a table is that among its words.
 abbrev pub Place : List ℕ → ℕ → List ℕ → ℕ → Type 0
 Place t n l k = (ws : List String) → Has t n ws → k ≡ placeIn ws l
 

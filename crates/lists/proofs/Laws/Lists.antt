@@ -37,7 +37,7 @@ five-properties l =
 
 -- One turn of the loop over the pairs: from the place p to the place e of the next space.
 module _ (s : List ℕ) (p e : ℕ) (n m : Settings) (q : Pair) (he : e ≡ p + spanTo 32 (drop p s)) (hq : q ≡ pairOf (take (e - p) (drop p s))) (hm : m ≡ addPair n q) where
-  -- A pair with a space behind it is added, ..
+  -- A pair with a space behind it is added.
   pub next-pair : e < length s → addPairs n (splitOn 32 (drop p s)) ≡ addPairs m (splitOn 32 (drop (e + 1) s))
   unfolding addPairs
   next-pair h =
@@ -46,7 +46,7 @@ module _ (s : List ℕ) (p e : ℕ) (n m : Settings) (q : Pair) (he : e ≡ p + 
       let j : p + (spanTo 32 (drop p s) + 1) ≡ e + 1 = omega arith in
       rw (split-more 32 (drop p s) k, drop-drop (spanTo 32 (drop p s) + 1) p s, j, hm, hq, i)
 
-  -- .. and the last one too.
+  -- The last pair, which has none, is added too.
   pub last-pair : p ≤ length s → length s ≤ e → addPairs n (splitOn 32 (drop p s)) ≡ m
   unfolding addPairs
   last-pair hp h =

@@ -21,7 +21,7 @@ fresh ns p = ltb 0 (p .setting) && eqb (getD ns (p .property) 0) 0
 abbrev list : Bool → List ℕ → Settings
 list b ns = record { readable = b; numbers = ns }
 
--- The same property twice is refused, ..
+-- The same property twice is refused.
 add-twice : (k : Bool) (ns : List ℕ) (p q : Pair) (t : Bool) → fresh ns p ≡ t → p .property ≡ q .property →
     p .property < length ns →
     addPair (addPair (list k ns) p) q ≡ refusedList
@@ -32,7 +32,7 @@ add-twice true ns p q true e h l =
     let c : 0 < p .setting = ltb-true 0 (p .setting) (and-eq-true-iff _ _ .0 e .0) in
     rw (e, ← h, getD-set-same ns (p .property) (p .setting) 0 l, ne-eqb (p .setting) 0 (λ z. omega arith), and-false)
 
--- .. and two properties are put in either order.
+-- Two properties are put in either order.
 add-two : (k : Bool) (ns : List ℕ) (p q : Pair) (t u : Bool) → fresh ns p ≡ t → fresh ns q ≡ u → (p .property ≡ q .property → ⊥) →
     addPair (addPair (list k ns) p) q ≡ addPair (addPair (list k ns) q) p
 unfolding addPair

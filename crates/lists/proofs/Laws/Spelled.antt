@@ -33,11 +33,11 @@ pub data Word : List ℕ → Pair → Type 0 where
   year-proleptic : Word (bytes "Year=Proleptic") (pair 2 2)
   year-negative : Word (bytes "Year=Negative") (pair 2 3)
   year-L5 : Word (bytes "Year=L5") (pair 2 4)
-  -- "`Time`: H, HM, HMS, ..
+  -- Of "`Time`: H, HM, HMS, HFn, HMFn, HMSFn, with n from 1 to 9" the first three.
   time-H : Word (bytes "Time=H") (pair 3 1)
   time-HM : Word (bytes "Time=HM") (pair 3 2)
   time-HMS : Word (bytes "Time=HMS") (pair 3 3)
-  -- .. HFn, HMFn, HMSFn, with n from 1 to 9."
+  -- Of the same the last three.
   time-HF : (n : ℕ) → 1 ≤ n → n ≤ 9 → Word (bytes "Time=HF" ++ (48 + n) ∷ []) (pair 3 (n * 10 + 1))
   time-HMF : (n : ℕ) → 1 ≤ n → n ≤ 9 → Word (bytes "Time=HMF" ++ (48 + n) ∷ []) (pair 3 (n * 10 + 2))
   time-HMSF : (n : ℕ) → 1 ≤ n → n ≤ 9 → Word (bytes "Time=HMSF" ++ (48 + n) ∷ []) (pair 3 (n * 10 + 3))
@@ -163,7 +163,7 @@ or-else w m n f g = go (eqb m 0)
 
 -- ---- the law
 
--- A text that is read as a setting is the word of that setting, ..
+-- A text that is read as a setting is the word of that setting.
 pub word-spelled : (w : List ℕ) → 0 < pairOf w .setting → Word w (pairOf w)
 unfolding pairOf
 word-spelled w =
@@ -175,7 +175,7 @@ word-spelled w =
     P : Pair → Type 0
     P p = 0 < p .setting → Word w p
 
--- .. and each word is read as its setting.
+-- Each word is read as its setting.
 pub word-read : (w : List ℕ) (p : Pair) → Word w p → pairOf w ≡ p
 unfolding pairOf placeFrom eqList fractionNumber
 word-read w p basic-date = refl

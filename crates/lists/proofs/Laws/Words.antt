@@ -54,7 +54,7 @@ pub left-all : {t l : List ℕ} {m : ℕ} (ws : List String) → Has t m ws → 
 left-all ws e = record { words = ws; rest = e .0; count = omega (arith, e .1); place = refl }
 
 module _ {t l : List ℕ} {m at k n : ℕ} (w : Left t l m at k n) where
-  -- Behind the last word the text is none of them, ..
+  -- Behind the last word the text is none of them.
   pub left-none : m ≤ k → 0 ≡ n
   unfolding placeFrom
   left-none h = none-of (w .words) (omega (arith, w .count)) (w .place)
@@ -67,14 +67,14 @@ module _ {t l : List ℕ} {m at k n : ℕ} (w : Left t l m at k n) where
     next : First t at (w .words)
     next = first t at (w .words) (w .rest) (omega (arith, w .count))
 
-    -- .. before it a text that is the next word has this word's place, ..
+    -- Before the last word a text that is the next word has this word's place.
     pub left-hit : eqList l (take (at + 1 + getD t at 0 - (at + 1)) (drop (at + 1) t)) ≡ true → k + 1 ≡ n
     unfolding placeFrom
     left-hit e =
         let q : eqList l (bytes (next .word)) ≡ true = rw (next .octets) at e in
         add-one k ∙ sym (w .place ∙ rw (next .split, q))
 
-    -- .. and any other is looked for among the words after it.
+    -- A text that is not the next word is looked for among the words after it.
     pub left-miss : eqList l (take (at + 1 + getD t at 0 - (at + 1)) (drop (at + 1) t)) ≡ false → Left t l m (at + 1 + getD t at 0) (k + 1) n
     unfolding placeFrom
     left-miss e =
