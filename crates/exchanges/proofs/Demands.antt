@@ -39,7 +39,8 @@ use Rattle.der_elements.specs.Elements.{element, elementOf}
 use Rattle.der_elements.proofs.Laws.Der.{der-lawful, element-gives, one-tag}
 use Rattle.exchanges.specs.Coding.{answerOf, answerUnder, derDecode, derEncode, perDecode, perEncode, underType}
 use Rattle.exchanges.specs.Limits.{limitsGiven, limitsNumber, underLimits, windowGiven}
-use Rattle.exchanges.specs.Demands.{answerInC, encodes, decodes, BitsTold, Demand1, Demand1InC, Demand2InDer, Demand2InPer, Demand3InDer, Demand3InPer, LimitsFromC, LimitsTold, SevenNumbers, TextsTold, TypesTold, ValuesTold}
+use Rattle.exchanges.specs.Demands.{answerInC, encodes, decodes, BitsTold, Demand1, Demand1InC, Demand2InDer, Demand2InPer, Demand3InDer, Demand3InPer}
+use Rattle.exchanges.specs.Demands.{LimitsFromC, LimitsTold, SevenNumbers, TextsTold, TypesTold, ValuesTold}
 use Rattle.exchanges.specs.declared.entries.Entry.{Entry}
 use Rattle.exchanges.specs.declared.limits.LimitsRead.{LimitsRead}
 use Rattle.exchanges.proofs.Laws.Causes.{number-given}

@@ -165,5 +165,6 @@ datesRight [] = true
 datesRight (date d exists ∷ l) = Bool·beq (existsOf d) exists && datesRight l
 
 dates-checked : datesRight dates ≡ true
-unfolding dates datesRight upTo astronomicalOf yearAt leapOf divisible remainder quotient yearLengthOf monthLengthOf daysOfYears newYear weekOf weekOneOf weeksOf
+unfolding dates datesRight upTo astronomicalOf yearAt leapOf divisible remainder quotient yearLengthOf monthLengthOf daysOfYears newYear weekOf weekOneOf
+    weeksOf
 dates-checked = refl

@@ -100,7 +100,8 @@ module _ (n : ℕ) where
   at-most-one true = omega arith
   at-most-one false = omega arith
 
-  by-tests : (s t u : Bool) → eqb ((n + 1) % 4) 0 ≡ s → eqb ((n + 1) % 100) 0 ≡ t → eqb ((n + 1) % 400) 0 ≡ u → cond s 1 0 + cond u 1 0 + 365 ≡ cond t 1 0 + cond (s && not t || u) 366 365
+  by-tests : (s t u : Bool) → eqb ((n + 1) % 4) 0 ≡ s → eqb ((n + 1) % 100) 0 ≡ t → eqb ((n + 1) % 400) 0 ≡ u
+      → cond s 1 0 + cond u 1 0 + 365 ≡ cond t 1 0 + cond (s && not t || u) 366 365
   by-tests true true true p r v = refl
   by-tests true true false p r v = refl
   by-tests true false true p r v = absurd (eqb-false ((n + 1) % 100) 0 r (let w = eqb-true ((n + 1) % 400) 0 v in omega arith))

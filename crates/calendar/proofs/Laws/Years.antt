@@ -28,7 +28,8 @@ module _ (year : Year) where
   below-zero k e = Z.is-neg (year .number) zeroYear k e
 
   -- a law for a year, from one for each of the two
-  pub by-sign : (P : ℤ → Type 0) → ((k : ℕ) → year .number ≡ zeroYear + k → P (pos k)) → ((k : ℕ) → year .number + suc k ≡ zeroYear → P (negsuc k)) → P (astronomicalOf year)
+  pub by-sign : (P : ℤ → Type 0) → ((k : ℕ) → year .number ≡ zeroYear + k → P (pos k)) → ((k : ℕ) → year .number + suc k ≡ zeroYear → P (negsuc k))
+      → P (astronomicalOf year)
   unfolding astronomicalOf
   by-sign P p n = Z.by-form P (year .number) zeroYear p n
 

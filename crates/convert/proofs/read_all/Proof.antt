@@ -8,7 +8,8 @@ use Rattle.convert.proofs.read_all.Statement.{statement}
 use Rattle.convert.proofs.read_all.Tie as tie
 
 abbrev Inv-loop : tie.InvT-loop
-Inv-loop input₀ output₀ state₀ turns₀ input output state turns = (state .held ≤ longestLine) × (state .used ≤ length output₀) × (length input ≡ length input₀) × (length output ≡ length output₀)
+Inv-loop input₀ output₀ state₀ turns₀ input output state turns = (state .held ≤ longestLine) × (state .used ≤ length output₀) × (length input ≡ length input₀)
+    × (length output ≡ length output₀)
 
 abbrev μ-loop : tie.MeasureT-loop
 μ-loop input₀ output₀ state₀ turns₀ input output state turns = turns

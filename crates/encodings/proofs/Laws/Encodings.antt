@@ -71,7 +71,8 @@ held-form t v h f w e = go (sameForm (valueForm v) f) refl
     go true b = sym (in-type t v (held t v h .1) .0) ∙ same-form (valueForm v) f b
     go false b =
         let n : readOf f (textOf v) ≡ TextRead.NotOfForm =
-        other-form longestYear (omega arith) longestYear (omega arith) (omega arith) (omega arith) canonical v f (held-fits t v h) (λ q. false≢true (sym b ∙ form-same (valueForm v) f q)) in
+        other-form longestYear (omega arith) longestYear (omega arith) (omega arith) (omega arith) canonical v f (held-fits t v h)
+        (λ q. false≢true (sym b ∙ form-same (valueForm v) f q)) in
         absurd (let o = sym (ap ofText n) ∙ e in let z : _≡_ {A = ℕ} 0 1 = cc in omega arith)
 
 module _ {R : Type 0} (E : Encoding R) where
@@ -105,8 +106,10 @@ module _ {R : Type 0} (E : Encoding R) where
       formed true TextRead.NotOfForm = refl
       formed true (TextRead.Value v s) = real (existsValue v) (inType t v)
         where
-          real : (a b : Bool) → cond a (cond b (done (E .encoding (E .row t) v) (E .count (E .row t) v)) (refused Refusal.Membership)) (refused Refusal.Existence)
-              ≡ admissionAnswer E (E .row t) (givenAs v (cond a (cond b Judgement.Held (Judgement.Refused Refusal.Membership)) (Judgement.Refused Refusal.Existence)))
+          real : (a b : Bool) → cond a (cond b (done (E .encoding (E .row t) v) (E .count (E .row t) v)) (refused Refusal.Membership))
+              (refused Refusal.Existence)
+              ≡ admissionAnswer E (E .row t) (givenAs v (cond a (cond b Judgement.Held (Judgement.Refused Refusal.Membership))
+              (Judgement.Refused Refusal.Existence)))
           real false b = refl
           real true false = refl
           real true true = refl

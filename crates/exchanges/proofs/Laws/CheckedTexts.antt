@@ -18,7 +18,8 @@ use Rattle.lists.specs.Lists.{addPair, addPairs, complete, completed, datedList
 use Rattle.lists.specs.Words.{fractionNumber, pairOf, placeFrom}
 use Rattle.types.specs.Numbers.{clockAt, dateAt, zoneAt}
 use Rattle.type_texts.proofs.Laws.CheckedTypes.{bothLimits, from2000, noHour24, noYears}
-use Rattle.type_texts.specs.TypeTexts.{allOf, distinct, equalLists, joined, listType, listsOf, member, oneRow, sameButYear, timeAt, typeOf, usable, yearFamily, yearsOf}
+use Rattle.type_texts.specs.TypeTexts.{allOf, distinct, equalLists, joined, listType, listsOf, member, oneRow, sameButYear, timeAt, typeOf, usable}
+use Rattle.type_texts.specs.TypeTexts.{yearFamily, yearsOf}
 use Rattle.types.specs.Types.{limitedTo, noLimits, placed, typeNumber}
 use Rattle.types.specs.declared.types.Limits.{Limits}
 use Rattle.types.specs.declared.types.TypeRead.{TypeRead}
@@ -202,9 +203,19 @@ allRight (row s text number canonical ∷ l) = isRight (typeOf noLimits (bytes s
 allRight (under s limits text number canonical ∷ l) = isRight (typeOf limits (bytes s)) (bytes text) number canonical && allRight l
 
 texts-checked : allRight rows ≡ true
-unfolding rows numberIn textAfter textIn isRight allRight upTo quotient remainder divisible monthLengthOf daysOfYears newYear weekOf weekOneOf weeksOf astronomicalOf yearAt leapOf yearLengthOf putAfter putDate getWeek getAfter getDate putDigits getDigits getField leading render getValue readUpTo putClock getAfterHours getClock putFraction getFraction putZone getMinutes getDifference getZone putTime getTime sizeIn yearDigits yearText signedFits getSigned getYear splitOn addPair addPairs datedList timedList complete completed listOf eqList placeFrom fractionNumber pairOf dateAt clockAt zoneAt listsOf sameButYear yearFamily oneRow equalLists allOf distinct usable member yearsOf timeAt listType joined typeOf placed limitedTo judged admitted existsClock existsFraction existsDifference existsTime sameDateForm sameTimeForm between admitsDate admitsTime inType holdsOf
+unfolding rows numberIn textAfter textIn isRight allRight upTo quotient remainder divisible monthLengthOf daysOfYears newYear weekOf weekOneOf weeksOf
+    astronomicalOf yearAt leapOf yearLengthOf putAfter putDate getWeek getAfter getDate putDigits getDigits getField leading render getValue readUpTo putClock
+    getAfterHours getClock putFraction getFraction putZone getMinutes getDifference getZone putTime getTime sizeIn yearDigits yearText signedFits getSigned
+    getYear splitOn addPair addPairs datedList timedList complete completed listOf eqList placeFrom fractionNumber pairOf dateAt clockAt zoneAt listsOf
+    sameButYear yearFamily oneRow equalLists allOf distinct usable member yearsOf timeAt listType joined typeOf placed limitedTo judged admitted existsClock
+    existsFraction existsDifference existsTime sameDateForm sameTimeForm between admitsDate admitsTime inType holdsOf
 texts-checked = refl
 
 limits-checked : allRight limited ≡ true
-unfolding limited early from1500 numberIn textAfter textIn isRight allRight upTo quotient remainder divisible monthLengthOf daysOfYears newYear weekOf weekOneOf weeksOf astronomicalOf yearAt leapOf yearLengthOf putAfter putDate getWeek getAfter getDate putDigits getDigits getField leading render getValue readUpTo putClock getAfterHours getClock putFraction getFraction putZone getMinutes getDifference getZone putTime getTime sizeIn yearDigits yearText signedFits getSigned getYear splitOn addPair addPairs datedList timedList complete completed listOf eqList placeFrom fractionNumber pairOf dateAt clockAt zoneAt listsOf sameButYear yearFamily oneRow equalLists allOf distinct usable member yearsOf timeAt listType joined typeOf placed limitedTo judged admitted existsClock existsFraction existsDifference existsTime sameDateForm sameTimeForm between admitsDate admitsTime inType holdsOf
+unfolding limited early from1500 numberIn textAfter textIn isRight allRight upTo quotient remainder divisible monthLengthOf daysOfYears newYear weekOf
+    weekOneOf weeksOf astronomicalOf yearAt leapOf yearLengthOf putAfter putDate getWeek getAfter getDate putDigits getDigits getField leading render getValue
+    readUpTo putClock getAfterHours getClock putFraction getFraction putZone getMinutes getDifference getZone putTime getTime sizeIn yearDigits yearText
+    signedFits getSigned getYear splitOn addPair addPairs datedList timedList complete completed listOf eqList placeFrom fractionNumber pairOf dateAt clockAt
+    zoneAt listsOf sameButYear yearFamily oneRow equalLists allOf distinct usable member yearsOf timeAt listType joined typeOf placed limitedTo judged
+    admitted existsClock existsFraction existsDifference existsTime sameDateForm sameTimeForm between admitsDate admitsTime inType holdsOf
 limits-checked = refl

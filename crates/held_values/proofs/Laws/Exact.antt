@@ -40,7 +40,8 @@ use Rattle.held_values.specs.Holding.{admits, admitsDate, admitsTime, be
 use Rattle.held_values.specs.Written.{written}
 use Rattle.held_values.specs.declared.admission.Admission.{Admission}
 use Rattle.held_values.specs.declared.admission.Judgement.{Judgement}
-use Rattle.held_values.proofs.Laws.Holding.{Setting, date-admitted, form-same, held, holds-both, in-type, inSetting, named-year, names, of-form, same-form, time-admitted, year-named}
+use Rattle.held_values.proofs.Laws.Holding.{Setting, date-admitted, form-same, held, holds-both, in-type, inSetting, named-year, names, of-form}
+use Rattle.held_values.proofs.Laws.Holding.{same-form, time-admitted, year-named}
 use Rattle.held_values.proofs.Laws.Exists.{ValueExists, exists-value, value-exists}
 use Rattle.held_values.proofs.Laws.Existing.{ShortYear, date-short, exists-fits, held-read}
 
@@ -157,7 +158,8 @@ form-shown t v x y e = go (sameForm (valueForm v) (formOf t)) refl
     go true b = same-form (valueForm v) (formOf t) b
     go false b =
         let n : readOf (formOf t) (textOf v) ≡ TextRead.NotOfForm =
-        other-form longestYear (omega arith) longestYear (omega arith) (omega arith) (omega arith) canonical v (formOf t) (exists-fits longestYear v x y) (λ q. false≢true (sym b ∙ form-same (valueForm v) (formOf t) q)) in
+        other-form longestYear (omega arith) longestYear (omega arith) (omega arith) (omega arith) canonical v (formOf t) (exists-fits longestYear v x y)
+        (λ q. false≢true (sym b ∙ form-same (valueForm v) (formOf t) q)) in
         absurd (let z : 3 ≡ 0 = sym (ap textNumber n) ∙ e in omega arith)
 
 -- ---- the law
@@ -200,11 +202,13 @@ module _ (t : Ty) (v : Value) where
   unfolding judged
   judgement-why = real (existsValue v) refl
     where
-      inside : existsValue v ≡ true → (b : Bool) → inType t v ≡ b → WhyJudged t v (judgementNumber (cond b Judgement.Held (Judgement.Refused Refusal.Membership)))
+      inside : existsValue v ≡ true → (b : Bool) → inType t v ≡ b → WhyJudged t v
+          (judgementNumber (cond b Judgement.Held (Judgement.Refused Refusal.Membership)))
       inside x true b = holds-it (holds-both t v x b)
       inside x false b = five x b
 
-      real : (b : Bool) → existsValue v ≡ b → WhyJudged t v (judgementNumber (cond b (cond (inType t v) Judgement.Held (Judgement.Refused Refusal.Membership)) (Judgement.Refused Refusal.Existence)))
+      real : (b : Bool) → existsValue v ≡ b → WhyJudged t v (judgementNumber
+          (cond b (cond (inType t v) Judgement.Held (Judgement.Refused Refusal.Membership)) (Judgement.Refused Refusal.Existence)))
       real true b = inside b (inType t v) refl
       real false b = four b
 
@@ -231,7 +235,8 @@ module _ (t : Ty) (l : List ℕ) where
       reads w TextRead.NotOfForm r = three w r
       reads w (TextRead.Value v s) r = rw (given-number v (judged t v)) (value w v s r (judgementNumber (judged t v)) (judgement-why t v))
 
-      formed : (b : Bool) → wellFormed t ≡ b → WhyAdmitted t l (admissionNumber (cond b (judgedRead t (readOf (formOf t) l)) (Admission.Refused Refusal.Settings)))
+      formed : (b : Bool) → wellFormed t ≡ b → WhyAdmitted t l (admissionNumber
+          (cond b (judgedRead t (readOf (formOf t) l)) (Admission.Refused Refusal.Settings)))
       formed true b = reads b (readOf (formOf t) l) refl
       formed false b = one b
 

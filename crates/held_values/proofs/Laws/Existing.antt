@@ -163,7 +163,8 @@ pub admitted-held : (t : Ty) (l : List ℕ) (v : Value) → admitted t l ≡ Adm
     (wellFormed t ≡ true) × (holdsOf t v ≡ true) × (s : Spelling) × (l ≡ render s v)
 unfolding admitted
 admitted-held t l v = go (wellFormed t) refl (readOf (formOf t) l) refl where
-  go : (a : Bool) → wellFormed t ≡ a → (r : TextRead) → readOf (formOf t) l ≡ r → cond a (judgedRead t r) (Admission.Refused Refusal.Settings) ≡ Admission.Value v →
+  go : (a : Bool) → wellFormed t ≡ a → (r : TextRead) → readOf (formOf t) l ≡ r
+      → cond a (judgedRead t r) (Admission.Refused Refusal.Settings) ≡ Admission.Value v →
       (wellFormed t ≡ true) × (holdsOf t v ≡ true) × (s : Spelling) × (l ≡ render s v)
   go true x (TextRead.Value w s) y g =
       let p = given-held t w v g in

@@ -30,7 +30,8 @@ use Rattle.types.specs.Types.{formOfParts, formOf, partsOf}
 use Rattle.held_values.specs.Forms.{sameDateForm, sameTimeForm, sameForm}
 use Rattle.held_values.specs.Existence.{hoursOf, existsValue}
 use Rattle.texts.specs.Forms.{yearOf}
-use Rattle.held_values.specs.Holding.{between, inBasic, inProleptic, inNegative, inFive, inYears, inWindow, admitsDate, admitsTime, admits, inType, holdsOf}
+use Rattle.held_values.specs.Holding.{between, inBasic, inProleptic, inNegative, inFive, inYears, inWindow, admitsDate, admitsTime, admits, inType}
+use Rattle.held_values.specs.Holding.{holdsOf}
 use Rattle.answers.proofs.Laws.Outcomes.{by-number}
 use Rattle.held_values.proofs.Laws.Existence.{three}
 
@@ -95,7 +96,8 @@ module _ (parts : Parts) (value : Value) {d : DateType} {u : TimeType} {date : D
   pub date-time-in : parts ≡ Parts.DateTime d u → value ≡ Value.DateTime date time
       → (sameForm (valueForm value) (formOfParts parts) && admits parts value)
       ≡ (sameDateForm (dateForm date) (d .form) && admitsDate d date && (sameTimeForm (timeForm time) (u .form) && admitsTime u time))
-  date-time-in p v = simp (p, v) (crossed (sameDateForm (dateForm date) (d .form)) (sameTimeForm (timeForm time) (u .form)) (admitsDate d date) (admitsTime u time))
+  date-time-in p v = simp (p, v) (crossed (sameDateForm (dateForm date) (d .form)) (sameTimeForm (timeForm time) (u .form)) (admitsDate d date)
+      (admitsTime u time))
 
 -- A type holds exactly what exists and is in the type.
 module _ (t : Ty) (value : Value) where

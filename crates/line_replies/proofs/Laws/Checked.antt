@@ -20,7 +20,8 @@ use Rattle.texts.specs.Years.{getSigned, getYear, signedFits, sizeIn, yearDigit
 use Rattle.lists.specs.Lists.{addPair, addPairs, complete, completed, datedList, listOf, timedList}
 use Rattle.lists.specs.Words.{fractionNumber, pairOf, placeFrom}
 use Rattle.types.specs.Numbers.{clockAt, dateAt, zoneAt}
-use Rattle.type_texts.specs.TypeTexts.{allOf, distinct, equalLists, joined, listType, listsOf, member, oneRow, sameButYear, timeAt, typeOf, usable, yearFamily, yearsOf}
+use Rattle.type_texts.specs.TypeTexts.{allOf, distinct, equalLists, joined, listType, listsOf, member, oneRow, sameButYear, timeAt, typeOf, usable}
+use Rattle.type_texts.specs.TypeTexts.{yearFamily, yearsOf}
 use Rattle.types.specs.Types.{limitedTo, placed}
 use Rattle.held_values.specs.Existence.{existsClock, existsDifference, existsFraction, existsTime}
 use Rattle.held_values.specs.Forms.{sameDateForm, sameTimeForm}
@@ -29,8 +30,10 @@ use Rattle.fields.specs.Bits.{bitsOf, numberIn, octetsOf, packed, unpacked}
 use Rattle.fields.specs.Integers.{fewest, fromTwos, half, twos, within}
 use Rattle.fields.specs.Fields.{binaryDigits, bitCount, fieldBits, fieldWidth, layout, width}
 use Rattle.fields.specs.Readings.{_>>=_, aFree, aRanged, readBits, readFree, readRanged, require, run}
-use Rattle.rows.specs.Fields.{choiceOfYear, clockFields, dateFields, dayFields, differenceFields, fieldsOf, fractionFields, hoursField, longFraction, otherYear, timeFields, yearFields, zoneFields}
-use Rattle.rows.specs.Readings.{differenceAt, natural, readChoice, readClock, readDate, readDay, readExtended, readFraction, readMinutes, readOctets, readTime, readValue, readYear, readZone}
+use Rattle.rows.specs.Fields.{choiceOfYear, clockFields, dateFields, dayFields, differenceFields, fieldsOf, fractionFields, hoursField, longFraction}
+use Rattle.rows.specs.Fields.{otherYear, timeFields, yearFields, zoneFields}
+use Rattle.rows.specs.Readings.{differenceAt, natural, readChoice, readClock, readDate, readDay, readExtended, readFraction, readMinutes, readOctets}
+use Rattle.rows.specs.Readings.{readTime, readValue, readYear, readZone}
 use Rattle.kinds.specs.Coding.{compared, decoded, encoded, judgedAs, judgedOctets, judgedText}
 use Rattle.per.specs.Per.{countOf, encodingOf}
 use Rattle.answers.specs.Counts.{octetsFor}
@@ -91,7 +94,17 @@ rows =
     []
 
 allRight : List Row → Bool
-unfolding upTo quotient remainder divisible monthLengthOf daysOfYears newYear weekOf weekOneOf weeksOf astronomicalOf yearAt leapOf yearLengthOf putAfter putDate getWeek getAfter getDate putDigits getDigits getField leading render getValue readUpTo putClock getAfterHours getClock putFraction getFraction putZone getMinutes getDifference getZone putTime getTime sizeIn yearDigits yearText signedFits getSigned getYear splitOn addPair addPairs datedList timedList complete completed listOf eqList placeFrom fractionNumber pairOf dateAt clockAt zoneAt listsOf sameButYear yearFamily oneRow equalLists allOf distinct usable member yearsOf timeAt listType joined typeOf placed limitedTo existsClock existsFraction existsDifference existsTime sameDateForm sameTimeForm between admitsDate admitsTime inType bitsOf numberIn packed octetsOf unpacked half within fewest twos fromTwos binaryDigits width fieldBits layout fieldWidth bitCount _>>=_ aRanged aFree require readBits readRanged readFree run otherYear choiceOfYear yearFields dayFields dateFields clockFields longFraction fractionFields hoursField differenceFields zoneFields timeFields fieldsOf readChoice readYear readDay readDate readClock natural readExtended readFraction readMinutes differenceAt readZone readTime readValue readOctets judgedAs judgedText encoded compared judgedOctets decoded encodingOf countOf octetsFor spanTo without contentsOf element elementOf allDigits digitsOnly separated readElement hexDigit toHex hexNumber fromHex worked cutAgain replyOf answerOf entryNamed
+unfolding upTo quotient remainder divisible monthLengthOf daysOfYears newYear weekOf weekOneOf weeksOf astronomicalOf yearAt leapOf yearLengthOf putAfter
+    putDate getWeek getAfter getDate putDigits getDigits getField leading render getValue readUpTo putClock getAfterHours getClock putFraction getFraction
+    putZone getMinutes getDifference getZone putTime getTime sizeIn yearDigits yearText signedFits getSigned getYear splitOn addPair addPairs datedList
+    timedList complete completed listOf eqList placeFrom fractionNumber pairOf dateAt clockAt zoneAt listsOf sameButYear yearFamily oneRow equalLists allOf
+    distinct usable member yearsOf timeAt listType joined typeOf placed limitedTo existsClock existsFraction existsDifference existsTime sameDateForm
+    sameTimeForm between admitsDate admitsTime inType bitsOf numberIn packed octetsOf unpacked half within fewest twos fromTwos binaryDigits width fieldBits
+    layout fieldWidth bitCount _>>=_ aRanged aFree require readBits readRanged readFree run otherYear choiceOfYear yearFields dayFields dateFields clockFields
+    longFraction fractionFields hoursField differenceFields zoneFields timeFields fieldsOf readChoice readYear readDay readDate readClock natural readExtended
+    readFraction readMinutes differenceAt readZone readTime readValue readOctets judgedAs judgedText encoded compared judgedOctets decoded encodingOf countOf
+    octetsFor spanTo without contentsOf element elementOf allDigits digitsOnly separated readElement hexDigit toHex hexNumber fromHex worked cutAgain replyOf
+    answerOf entryNamed
 allRight [] = true
 allRight (line text zeros reply ∷ l) =
     eqList (replyOf (bytes text ++ replicate zeros 48)) (bytes reply ++ bytes "\n") && allRight l

@@ -36,7 +36,8 @@ five-properties l =
     every-pair (λ p. p .property < 5) l (omega arith) (omega arith) (omega arith) (omega arith) (λ n. omega arith)
 
 -- One turn of the loop over the pairs: from the place p to the place e of the next space.
-module _ (s : List ℕ) (p e : ℕ) (n m : Settings) (q : Pair) (he : e ≡ p + spanTo 32 (drop p s)) (hq : q ≡ pairOf (take (e - p) (drop p s))) (hm : m ≡ addPair n q) where
+module _ (s : List ℕ) (p e : ℕ) (n m : Settings) (q : Pair) (he : e ≡ p + spanTo 32 (drop p s)) (hq : q ≡ pairOf (take (e - p) (drop p s)))
+    (hm : m ≡ addPair n q) where
   -- A pair with a space behind it is added.
   pub next-pair : e < length s → addPairs n (splitOn 32 (drop p s)) ≡ addPairs m (splitOn 32 (drop (e + 1) s))
   unfolding addPairs

@@ -38,7 +38,14 @@ add-two : (k : Bool) (ns : List ℕ) (p q : Pair) (t u : Bool) → fresh ns p �
 unfolding addPair
 add-two false ns p q t u e g n = refl
 add-two true ns p q true true e g n =
-    rw (e, g, getD-set-other ns (p .property) (q .property) (p .setting) 0 (λ z. n (sym z)), getD-set-other ns (q .property) (p .property) (q .setting) 0 n, e, g)
+    rw (
+      e,
+      g,
+      getD-set-other ns (p .property) (q .property) (p .setting) 0 (λ z. n (sym z)),
+      getD-set-other ns (q .property) (p .property) (q .setting) 0 n,
+      e,
+      g,
+    )
     (ap settings (set-comm ns (p .property) (q .property) (p .setting) (q .setting) n))
 add-two true ns p q true false e g n = rw (e, g, getD-set-other ns (p .property) (q .property) (p .setting) 0 (λ z. n (sym z)), g)
 add-two true ns p q false true e g n = rw (e, g, getD-set-other ns (q .property) (p .property) (q .setting) 0 n, e)

@@ -11,7 +11,8 @@ use lib.Seq.{take-suc, take-all}
 use borrow.Author.Tests.{leb-true, le-leb, ne-eqb}
 use Rattle.octets.specs.Octets.{bytes, eqList}
 use Rattle.octets.proofs.Laws.Octets.{equal}
-use Rattle.lists.specs.Words.{placeFrom, placeIn, basicWords, dateWords, yearWords, clockWords, fractionWords, zoneWords, withDigits, fractionNumber, firstNumber, pair, pairOf}
+use Rattle.lists.specs.Words.{placeFrom, placeIn, basicWords, dateWords, yearWords, clockWords, fractionWords, zoneWords, withDigits, fractionNumber}
+use Rattle.lists.specs.Words.{firstNumber, pair, pairOf}
 use Rattle.lists.specs.declared.words.Pair.{Pair}
 use Rattle.lists.proofs.Laws.Lists.{first-of}
 

@@ -52,7 +52,11 @@ returns-3 : tie.Need-returns-3 Inv-loop μ-loop
 unfolding eqList
 returns-3 c = sym
     (c .before .loop .inv .2
-    ∙ rw (drop-of-length-le (c .before .before .before .args .a .now) (c .loop-test .left), drop-of-length-le (c .before .before .before .args .b .now) (rw (c .before .loop .inv .0) at (c .loop-test .left))))
+    ∙ rw (
+      drop-of-length-le (c .before .before .before .args .a .now) (c .loop-test .left),
+      drop-of-length-le (c .before .before .before .args .b .now)
+          (rw (c .before .loop .inv .0) at (c .loop-test .left)),
+    ))
 
 pub same-spec : {M : Type 1} → statement M
 same-spec =

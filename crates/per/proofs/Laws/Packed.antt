@@ -41,4 +41,5 @@ module _ (row : YearRow) (v : Value) {packed : Packed} (e : packed ≡ packedOf 
   unfolding packedOf inBuffer encodingOf
   packed-front h =
       rw (h, packed-bits, e)
-      (take-at (octetsOf (layout (fieldsOf row v))) (drop (length (octetsOf (layout (fieldsOf row v)))) (replicate 16 0)) (octetsFor (countOf row v) .count) (length-encoding row v))
+      (take-at (octetsOf (layout (fieldsOf row v))) (drop (length (octetsOf (layout (fieldsOf row v)))) (replicate 16 0)) (octetsFor (countOf row v) .count)
+      (length-encoding row v))

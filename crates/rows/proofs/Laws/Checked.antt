@@ -31,8 +31,10 @@ use Rattle.fields.specs.Fields.{binaryDigits, width, fieldBits, layout, fieldWi
 use Rattle.fields.specs.Readings.{_>>=_, aRanged, aFree, require, readBits, readRanged, readFree, run}
 use Rattle.answers.proofs.Laws.Quoted.{hex}
 use Rattle.rows.specs.declared.YearRow.{YearRow}
-use Rattle.rows.specs.Fields.{yearRowOf, otherYear, choiceOfYear, yearFields, dayFields, dateFields, clockFields, longFraction, fractionFields, hoursField, differenceFields, zoneFields, timeFields, fieldsOf}
-use Rattle.rows.specs.Readings.{readChoice, readYear, readDay, readDate, readClock, natural, readExtended, readFraction, readMinutes, differenceAt, readZone, readTime, readValue, readOctets}
+use Rattle.rows.specs.Fields.{yearRowOf, otherYear, choiceOfYear, yearFields, dayFields, dateFields, clockFields, longFraction, fractionFields}
+use Rattle.rows.specs.Fields.{hoursField, differenceFields, zoneFields, timeFields, fieldsOf}
+use Rattle.rows.specs.Readings.{readChoice, readYear, readDay, readDate, readClock, natural, readExtended, readFraction, readMinutes, differenceAt}
+use Rattle.rows.specs.Readings.{readZone, readTime, readValue, readOctets}
 
 -- Local time so far ahead of UTC, and so far behind it.
 abbrev ahead : ℕ → ℕ → Zone
@@ -111,7 +113,10 @@ said (typedBoth y d c n f z octets count ∷ l) = saysOf (Value.DateTime d (at c
 
 -- What the definitions make of a row: the octets of its value, their bit count, and what its octets give.
 makesOf : YearRow → Value → List ℕ → Coding
-unfolding octetsFor astronomicalOf yearAt bitsOf numberIn packed octetsOf unpacked half within fewest twos fromTwos binaryDigits width fieldBits layout fieldWidth bitCount _>>=_ aRanged aFree require readBits readRanged readFree run otherYear choiceOfYear yearFields dayFields dateFields clockFields longFraction fractionFields hoursField differenceFields zoneFields timeFields fieldsOf readChoice readYear readDay readDate readClock natural readExtended readFraction readMinutes differenceAt readZone readTime readValue readOctets
+unfolding octetsFor astronomicalOf yearAt bitsOf numberIn packed octetsOf unpacked half within fewest twos fromTwos binaryDigits width fieldBits layout
+    fieldWidth bitCount _>>=_ aRanged aFree require readBits readRanged readFree run otherYear choiceOfYear yearFields dayFields dateFields clockFields
+    longFraction fractionFields hoursField differenceFields zoneFields timeFields fieldsOf readChoice readYear readDay readDate readClock natural readExtended
+    readFraction readMinutes differenceAt readZone readTime readValue readOctets
 makesOf y v octets = coding (octetsOf (layout (fieldsOf y v))) (bitCount (fieldsOf y v)) (readOctets y (valueForm v) octets)
 
 made : List Row → List Coding

@@ -15,7 +15,8 @@ use Rattle.texts.specs.declared.values.Zone.{Zone}
 use Rattle.fields.specs.Fields.{Field, width, binaryDigits, fieldWidth, bitCount}
 use Rattle.fields.proofs.Laws.Fields.{count-append, free-width}
 use Rattle.rows.specs.declared.YearRow.{YearRow}
-use Rattle.rows.specs.Fields.{otherYear, choiceOfYear, yearFields, dayFields, dateFields, clockFields, longFraction, fractionFields, hoursField, differenceFields, zoneFields, timeFields, fieldsOf}
+use Rattle.rows.specs.Fields.{otherYear, choiceOfYear, yearFields, dayFields, dateFields, clockFields, longFraction, fractionFields, hoursField}
+use Rattle.rows.specs.Fields.{differenceFields, zoneFields, timeFields, fieldsOf}
 
 at-most : (t : Bool) (n : ℕ) (fs gs : List Field) → bitCount fs ≤ n → bitCount gs ≤ n → bitCount (cond t fs gs) ≤ n
 at-most true n fs gs f g = f

@@ -13,7 +13,8 @@ use Rattle.texts.specs.Dates.{getAfter, getDate, getWeek, putAfter, putD
 use Rattle.texts.specs.Digits.{getDigits, getField, leading, putDigits}
 use Rattle.texts.specs.Forms.{valueForm}
 use Rattle.texts.specs.Texts.{getValue, readOf, readUpTo, render, textOf}
-use Rattle.texts.specs.Times.{canonical, difference, getAfterHours, getClock, getDifference, getFraction, getMinutes, getTime, getZone, putClock, putFraction, putTime, putZone, spelling}
+use Rattle.texts.specs.Times.{canonical, difference, getAfterHours, getClock, getDifference, getFraction, getMinutes, getTime, getZone, putClock}
+use Rattle.texts.specs.Times.{putFraction, putTime, putZone, spelling}
 use Rattle.texts.specs.Years.{getSigned, getYear, signedFits, sizeIn, yearDigits, yearText}
 use Rattle.texts.specs.declared.forms.DateForm.{DateForm}
 use Rattle.texts.specs.declared.forms.Form.{Form}
@@ -40,7 +41,8 @@ data Row : Type 0 where
   none : (f : DateForm) (s : String) → readOf (Form.Date f) (chars s) ≡ TextRead.NotOfForm → Row
 
 texts-checked : List Row
-unfolding astronomicalOf yearAt putAfter putDate getWeek getAfter getDate putDigits getDigits getField leading render getValue readUpTo putClock getAfterHours getClock putFraction getFraction putZone getMinutes getDifference getZone putTime getTime sizeIn yearDigits yearText signedFits getSigned getYear
+unfolding astronomicalOf yearAt putAfter putDate getWeek getAfter getDate putDigits getDigits getField leading render getValue readUpTo putClock getAfterHours
+    getClock putFraction getFraction putZone getMinutes getDifference getZone putTime getTime sizeIn yearDigits yearText signedFits getSigned getYear
 texts-checked =
     -- "`2006`, `2006-06`, `2006-06-13`, `2006-164`, `2006-W24`, `2006-W24-2`"
     shown (Value.Date (Date.Y (yearAt (pos 2006)))) "2006" refl refl ∷

@@ -1,6 +1,7 @@
 -- The converse of completeness: a list that can be read is the pairs of its settings, each once, in some order, and nothing else.
 use mathlib.Core.Path.{_≡_, refl, ap, sym, _∙_, subst}
-use mathlib.Core.List.{List, [], _∷_, _++_, List·Permᴰ, List·Permᴰ·cons, List·Permᴰ·swap, List·Permᴰ·trans, Permᴰ·refl, Permᴰ·symm, Permᴰ·middle, Permᴰ·append-left}
+use mathlib.Core.List.{List, [], _∷_, _++_, List·Permᴰ, List·Permᴰ·cons, List·Permᴰ·swap, List·Permᴰ·trans, Permᴰ·refl, Permᴰ·symm, Permᴰ·middle}
+use mathlib.Core.List.{Permᴰ·append-left}
 use mathlib.Core.Bool.{Bool, true, false, _&&_, not, cond, false≢true}
 use Prim.Native.Nat.{ℕ, zero, suc, _+_, _<_, _≤_}
 use native.Mathlib.Omega.{arith}
@@ -81,7 +82,8 @@ pairs-shown s [] us l r h = record { words = us; shown = r; perm = Permᴰ·refl
 pairs-shown s (w ∷ ws) us l r h =
     let a = added s (pairOf w) (pairs-read (addPair s (pairOf w)) ws h) in
     let five = five-properties w in
-    let m = put (pairOf w .property) 0 (s .numbers) us w (pairOf w .setting) (pairOf w .property) (omega arith) (a .some) (omega arith) (a .fresh) (setting-spelled w (a .some)) r in
+    let m = put (pairOf w .property) 0 (s .numbers) us w (pairOf w .setting) (pairOf w .property) (omega arith) (a .some) (omega arith) (a .fresh)
+    (setting-spelled w (a .some)) r in
     let k : length (addPair s (pairOf w) .numbers) ≡ 5 = ap length (a .numbers-are) ∙ length-set (s .numbers) (pairOf w .property) (pairOf w .setting) ∙ l in
     let i = pairs-shown (addPair s (pairOf w)) ws (m .words) k (subst (λ (ns : List ℕ). Shown 0 ns (m .words)) (sym (a .numbers-are)) (m .shown)) h in
     record {
@@ -93,7 +95,8 @@ pairs-shown s (w ∷ ws) us l r h =
 pairs-length : (s : Settings) (ws : List (List ℕ)) → length (s .numbers) ≡ 5 → length (addPairs s ws .numbers) ≡ 5
 unfolding addPairs addPair
 pairs-length s [] l = l
-pairs-length s (w ∷ ws) l = pairs-length (addPair s (pairOf w)) ws (go (s .readable && (ltb 0 (pairOf w .setting) && eqb (getD (s .numbers) (pairOf w .property) 0) 0)))
+pairs-length s (w ∷ ws) l = pairs-length (addPair s (pairOf w)) ws (go
+    (s .readable && (ltb 0 (pairOf w .setting) && eqb (getD (s .numbers) (pairOf w .property) 0) 0)))
   where
     go : (b : Bool) → length (cond b (settings (set (s .numbers) (pairOf w .property) (pairOf w .setting))) refusedList .numbers) ≡ 5
     go true = length-set (s .numbers) (pairOf w .property) (pairOf w .setting) ∙ l
@@ -201,7 +204,8 @@ as-time w₁ w₂ ws d y t z e i j (time-of c n h) (zone-of g) = rw (e, i, j) (a
 
 as-both : (w₁ w₂ w₃ w₄ : List ℕ) (d y t z : ℕ) → DateIs w₁ d → YearIs w₂ y → TimeIs w₃ t → ZoneIs w₄ z
     → ListOf (bytes "Basic=Date-Time" ∷ w₁ ∷ w₂ ∷ w₃ ∷ w₄ ∷ []) (settings (3 ∷ d ∷ y ∷ t ∷ z ∷ []))
-as-both w₁ w₂ w₃ w₄ d y t z (date-of f) (year-of g) (time-of c n h) (zone-of v) = a-date-time f (record { clock = c; digits = n; zone = v }) g h (Permᴰ·refl _) refl
+as-both w₁ w₂ w₃ w₄ d y t z (date-of f) (year-of g) (time-of c n h) (zone-of v) = a-date-time f (record { clock = c; digits = n; zone = v }) g h
+    (Permᴰ·refl _) refl
 
 module _ (d y t z : ℕ) (ws : List (List ℕ)) (x : Shown 1 (d ∷ y ∷ t ∷ z ∷ []) ws) where
   dated-list : presentIf true d ≡ true → presentIf true y ≡ true → presentIf false t ≡ true → presentIf false z ≡ true
@@ -232,17 +236,22 @@ module _ (d y t z : ℕ) (ws : List (List ℕ)) (x : Shown 1 (d ∷ y ∷ t ∷ 
       let c = needs 3 t (z ∷ []) (b .1) r (b .4) in
       let e = needs 4 z [] (c .1) s (c .4) in
       let f : ws ≡ a .0 ∷ b .0 ∷ c .0 ∷ e .0 ∷ [] =
-      a .3 ∙ ap (λ (l : List (List ℕ)). a .0 ∷ l) (b .3 ∙ ap (λ (l : List (List ℕ)). b .0 ∷ l) (c .3 ∙ ap (λ (l : List (List ℕ)). c .0 ∷ l) (e .3 ∙ ap (λ (l : List (List ℕ)). e .0 ∷ l) (stops 5 (e .1) (e .4))))) in
-      rw f (as-both (a .0) (b .0) (c .0) (e .0) d y t z (date-is (a .0) (pair 1 d) (a .2) refl) (year-is (b .0) (pair 2 y) (b .2) refl) (time-is (c .0) (pair 3 t) (c .2) refl) (zone-is (e .0) (pair 4 z) (e .2) refl))
+      a .3 ∙ ap (λ (l : List (List ℕ)). a .0 ∷ l) (b .3 ∙ ap (λ (l : List (List ℕ)). b .0 ∷ l)
+      (c .3 ∙ ap (λ (l : List (List ℕ)). c .0 ∷ l) (e .3 ∙ ap (λ (l : List (List ℕ)). e .0 ∷ l) (stops 5 (e .1) (e .4))))) in
+      rw f (as-both (a .0) (b .0) (c .0) (e .0) d y t z (date-is (a .0) (pair 1 d) (a .2) refl) (year-is (b .0) (pair 2 y) (b .2) refl)
+      (time-is (c .0) (pair 3 t) (c .2) refl) (zone-is (e .0) (pair 4 z) (e .2) refl))
 
 -- By the setting of Basic.
-by-basic : (u : List ℕ) (b d y t z : ℕ) (ws : List (List ℕ)) → BasicIs u b → Shown 1 (d ∷ y ∷ t ∷ z ∷ []) ws → complete (settings (b ∷ d ∷ y ∷ t ∷ z ∷ [])) ≡ true
+by-basic : (u : List ℕ) (b d y t z : ℕ) (ws : List (List ℕ)) → BasicIs u b → Shown 1 (d ∷ y ∷ t ∷ z ∷ []) ws
+    → complete (settings (b ∷ d ∷ y ∷ t ∷ z ∷ [])) ≡ true
     → ListOf (u ∷ ws) (settings (b ∷ d ∷ y ∷ t ∷ z ∷ []))
 unfolding complete datedList timedList
 by-basic u b d y t z ws one x c =
-    let p = five-hold true (presentIf true d) (presentIf true y) (presentIf false t) (presentIf false z) c in dated-list d y t z ws x (p .1) (p .2) (p .3) (p .4)
+    let p = five-hold true (presentIf true d) (presentIf true y) (presentIf false t) (presentIf false z) c in
+    dated-list d y t z ws x (p .1) (p .2) (p .3) (p .4)
 by-basic u b d y t z ws two x c =
-    let p = five-hold true (presentIf false d) (presentIf false y) (presentIf true t) (presentIf true z) c in timed-list d y t z ws x (p .1) (p .2) (p .3) (p .4)
+    let p = five-hold true (presentIf false d) (presentIf false y) (presentIf true t) (presentIf true z) c in
+    timed-list d y t z ws x (p .1) (p .2) (p .3) (p .4)
 by-basic u b d y t z ws three x c =
     let p = five-hold true (presentIf true d) (presentIf true y) (presentIf true t) (presentIf true z) c in both-list d y t z ws x (p .1) (p .2) (p .3) (p .4)
 

@@ -15,7 +15,8 @@ use Rattle.types.specs.Types.{typeNumber, placed, limitedTo, noLimits, fraction
 use Rattle.types.specs.Rows.{timeNumber, sameRow, sameRows}
 use Rattle.lists.specs.Words.{placeFrom, fractionNumber, pairOf}
 use Rattle.lists.specs.Lists.{addPair, addPairs, datedList, timedList, complete, completed, listOf}
-use Rattle.type_texts.specs.TypeTexts.{listsOf, sameButYear, yearFamily, oneRow, equalLists, allOf, distinct, usable, member, yearsOf, timeAt, listType, joined, typeOf}
+use Rattle.type_texts.specs.TypeTexts.{listsOf, sameButYear, yearFamily, oneRow, equalLists, allOf, distinct, usable, member, yearsOf, timeAt, listType}
+use Rattle.type_texts.specs.TypeTexts.{joined, typeOf}
 use Rattle.types.specs.declared.types.Window.{Window}
 use Rattle.types.specs.declared.types.Limits.{Limits}
 use Rattle.types.specs.declared.types.TypeRead.{TypeRead}
@@ -150,7 +151,8 @@ textsRight [] = true
 textsRight (text s limits number ∷ l) = eqb (typeNumber (typeOf limits (bytes s))) number && textsRight l
 
 texts-checked : textsRight texts ≡ true
-unfolding texts textsRight typeOf joined listType timeAt yearsOf member usable distinct allOf equalLists oneRow yearFamily sameButYear listsOf listOf completed complete timedList datedList addPairs addPair splitOn pairOf fractionNumber placeFrom limitedTo placed zoneAt clockAt dateAt eqList
+unfolding texts textsRight typeOf joined listType timeAt yearsOf member usable distinct allOf equalLists oneRow yearFamily sameButYear listsOf listOf
+    completed complete timedList datedList addPairs addPair splitOn pairOf fractionNumber placeFrom limitedTo placed zoneAt clockAt dateAt eqList
 texts-checked = refl
 
 -- two types, with limits or without, and whether they select the same rows
@@ -206,7 +208,9 @@ pairsRight (pair s t expected ∷ l) = alike (typeOf noLimits (bytes s)) (typeOf
 pairsRight (limited s m t n expected ∷ l) = alike (typeOf m (bytes s)) (typeOf n (bytes t)) expected && pairsRight l
 
 pairs-checked : pairsRight pairs ≡ true
-unfolding pairs pairsRight alike timeNumber sameRow sameRows typeOf joined listType timeAt yearsOf member usable distinct allOf equalLists oneRow yearFamily sameButYear listsOf listOf completed complete timedList datedList addPairs addPair splitOn pairOf fractionNumber placeFrom limitedTo placed zoneAt clockAt dateAt eqList
+unfolding pairs pairsRight alike timeNumber sameRow sameRows typeOf joined listType timeAt yearsOf member usable distinct allOf equalLists oneRow yearFamily
+    sameButYear listsOf listOf completed complete timedList datedList addPairs addPair splitOn pairOf fractionNumber placeFrom limitedTo placed zoneAt clockAt
+    dateAt eqList
 pairs-checked = refl
 
 -- a type, and the number of its fraction digits
@@ -234,5 +238,6 @@ digitsRight [] = true
 digitsRight (count s n ∷ l) = has (typeOf noLimits (bytes s)) n && digitsRight l
 
 digits-checked : digitsRight digits ≡ true
-unfolding digits digitsRight has typeOf joined listType timeAt yearsOf member usable distinct allOf equalLists oneRow yearFamily sameButYear listsOf listOf completed complete timedList datedList addPairs addPair splitOn pairOf fractionNumber placeFrom limitedTo placed zoneAt clockAt dateAt eqList
+unfolding digits digitsRight has typeOf joined listType timeAt yearsOf member usable distinct allOf equalLists oneRow yearFamily sameButYear listsOf listOf
+    completed complete timedList datedList addPairs addPair splitOn pairOf fractionNumber placeFrom limitedTo placed zoneAt clockAt dateAt eqList
 digits-checked = refl

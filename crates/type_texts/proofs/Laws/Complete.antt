@@ -9,9 +9,11 @@ use borrow.Author.Tests.{leb-true}
 use Rattle.octets.specs.Octets.{bytes, eqList}
 use Rattle.types.proofs.Laws.Limits.{carrying-kept}
 use Rattle.types.proofs.Laws.WellFormed.{well-settings}
-use Rattle.types.specs.Types.{listed, DATE, TIME-OF-DAY, DATE-TIME, everyYear, hasDate, hasTime, placed, restricted, limitedTo, limitsOf, someYear, fewDigits, wellParts, wellFormed, partsOf, carrying}
+use Rattle.types.specs.Types.{listed, DATE, TIME-OF-DAY, DATE-TIME, everyYear, hasDate, hasTime, placed, restricted, limitedTo, limitsOf, someYear, fewDigits}
+use Rattle.types.specs.Types.{wellParts, wellFormed, partsOf, carrying}
 use Rattle.type_texts.specs.TypeTexts.{allOf, joined, typeOf}
-use Rattle.type_texts.specs.Written.{YearSetting, basic, datePairs, timePairs, dateTimePairs, namedYears, listsFor, joinWith, typeText, Arranged, end, more}
+use Rattle.type_texts.specs.Written.{YearSetting, basic, datePairs, timePairs, dateTimePairs, namedYears, listsFor, joinWith, typeText, Arranged, end}
+use Rattle.type_texts.specs.Written.{more}
 use Rattle.texts.specs.declared.forms.DateForm.{DateForm}
 use Rattle.texts.specs.declared.forms.TimeForm.{TimeForm}
 use Rattle.types.specs.declared.types.TimeType.{TimeType}
@@ -20,7 +22,9 @@ use Rattle.types.specs.declared.types.«Type».{«Type»}
 use Rattle.types.specs.declared.types.Limits.{Limits}
 use Rattle.types.specs.declared.types.TypeRead.{TypeRead}
 use Rattle.lists.specs.declared.lists.Settings.{Settings}
-use Rattle.type_texts.proofs.Laws.Written.{dateList, timeList, dateTimeList, date-list, time-list, date-time-list, basic-words, date-is-word, year-is-word, zone-is-word, time-is-word, ListText, list-text, text-read, some-named, date-joined, time-joined, date-time-joined}
+use Rattle.type_texts.proofs.Laws.Written.{dateList, timeList, dateTimeList, date-list, time-list, date-time-list, basic-words, date-is-word}
+use Rattle.type_texts.proofs.Laws.Written.{year-is-word, zone-is-word, time-is-word, ListText, list-text, text-read, some-named, date-joined}
+use Rattle.type_texts.proofs.Laws.Written.{time-joined, date-time-joined}
 
 -- Each list of a type, its pairs in any order, is read.
 date-text : (f : DateForm) (y : YearSetting) (ws : List (List ℕ)) → List·Permᴰ ws (datePairs f y) → ListText ws (dateList f y)

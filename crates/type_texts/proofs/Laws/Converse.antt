@@ -26,7 +26,8 @@ use Rattle.types.specs.declared.types.TypeRead.{TypeRead}
 use Rattle.types.specs.declared.types.Years.{Years}
 use Rattle.types.specs.declared.types.«Type».{«Type»}
 use Rattle.type_texts.specs.TypeTexts.{allOf, distinct, equalLists, joined, listsOf, mostLists, oneRow, sameButYear, timeAt, typeOf, usable, yearFamily}
-use Rattle.type_texts.specs.Written.{YearSetting, basic, proleptic, negative, five, datePairs, dateTimePairs, namedYears, listsFor, joinWith, typeText, Arranged, end, more}
+use Rattle.type_texts.specs.Written.{YearSetting, basic, proleptic, negative, five, datePairs, dateTimePairs, namedYears, listsFor, joinWith, typeText}
+use Rattle.type_texts.specs.Written.{Arranged, end, more}
 use Rattle.type_texts.proofs.Laws.Arranged.{ListOf, a-date, a-time, a-date-time, list-arranged}
 use Rattle.type_texts.proofs.Laws.Complete.{settings-read}
 use Rattle.type_texts.proofs.Laws.Joining.{lacks}
@@ -70,7 +71,8 @@ module _ (limits : Limits) (l : List ℕ) (t : «Type») (h : typeOf limits l �
       reads-as limits l t h (Parts.Date (unlimitedDate f (oneYear y))) (one-year y .0) (ws ∷ []) (rw (one-year y .1) (more p end)) x
   one-list ws s (a-time u k p e) x = reads-as limits l t h (Parts.Time (unlimitedTime u)) (le-leb (u .digits) 9 k) (ws ∷ []) (more p end) x
   one-list ws s (a-date-time f u y k p e) x =
-      reads-as limits l t h (Parts.DateTime (unlimitedDate f (oneYear y)) (unlimitedTime u)) (rw (one-year y .0) (le-leb (u .digits) 9 k)) (ws ∷ []) (rw (one-year y .1) (more p end)) x
+      reads-as limits l t h (Parts.DateTime (unlimitedDate f (oneYear y)) (unlimitedTime u)) (rw (one-year y .0) (le-leb (u .digits) 9 k)) (ws ∷ [])
+      (rw (one-year y .1) (more p end)) x
 
 -- ---- two lists
 
@@ -127,7 +129,8 @@ module _ (limits : Limits) (l : List ℕ) (t : «Type») (h : typeOf limits l �
       go (inl n) = two-ways (Parts.Date (unlimitedDate f (w .years))) (w .some) (inl (rw n (more p (more q end))))
       go (inr n) = two-ways (Parts.Date (unlimitedDate f (w .years))) (w .some) (inr (rw n (more q (more p end))))
 
-  date-times : (f : DateForm) (u : TimeForm) (y z : YearSetting) → u .digits ≤ 9 → Two y z → List·Permᴰ a (dateTimePairs f u y) → List·Permᴰ b (dateTimePairs f u z) → Reads limits t l
+  date-times : (f : DateForm) (u : TimeForm) (y z : YearSetting) → u .digits ≤ 9 → Two y z → List·Permᴰ a (dateTimePairs f u y)
+      → List·Permᴰ b (dateTimePairs f u z) → Reads limits t l
   date-times f u y z k w p q = go (w .named)
     where
       well : wellParts (Parts.DateTime (unlimitedDate f (w .years)) (unlimitedTime u)) ≡ true
@@ -143,12 +146,16 @@ module _ (limits : Limits) (l : List ℕ) (t : «Type») (h : typeOf limits l �
       let n : f ≡ g = by-number dateNumber dateAt date-back f g (m .date-is) in
       dates g y z (two-years y z (m .family-is) (m .year-not)) (subst (λ (d : DateForm). List·Permᴰ a (datePairs d y)) n p) q
   two-lists s u (a-date f y p e) (a-time v j q i) k = let m : Alike (dateList f y) (timeList v) = rw (e, i) at k in let z = m .basic-is in absurd (omega arith)
-  two-lists s u (a-date f y p e) (a-date-time g v z j q i) k = let m : Alike (dateList f y) (dateTimeList g v z) = rw (e, i) at k in let z = m .basic-is in absurd (omega arith)
+  two-lists s u (a-date f y p e) (a-date-time g v z j q i) k = let m : Alike (dateList f y) (dateTimeList g v z) = rw (e, i) at k in let z = m .basic-is in
+      absurd (omega arith)
   two-lists s u (a-time v j p e) (a-date g z q i) k = let m : Alike (timeList v) (dateList g z) = rw (e, i) at k in let z = m .basic-is in absurd (omega arith)
   two-lists s u (a-time v j p e) (a-time r c q i) k = let m : Alike (timeList v) (timeList r) = rw (e, i) at k in absurd (m .year-not refl)
-  two-lists s u (a-time v j p e) (a-date-time g r z c q i) k = let m : Alike (timeList v) (dateTimeList g r z) = rw (e, i) at k in let z = m .basic-is in absurd (omega arith)
-  two-lists s u (a-date-time f v y j p e) (a-date g z q i) k = let m : Alike (dateTimeList f v y) (dateList g z) = rw (e, i) at k in let z = m .basic-is in absurd (omega arith)
-  two-lists s u (a-date-time f v y j p e) (a-time r c q i) k = let m : Alike (dateTimeList f v y) (timeList r) = rw (e, i) at k in let z = m .basic-is in absurd (omega arith)
+  two-lists s u (a-time v j p e) (a-date-time g r z c q i) k = let m : Alike (timeList v) (dateTimeList g r z) = rw (e, i) at k in let z = m .basic-is in
+      absurd (omega arith)
+  two-lists s u (a-date-time f v y j p e) (a-date g z q i) k = let m : Alike (dateTimeList f v y) (dateList g z) = rw (e, i) at k in let z = m .basic-is in
+      absurd (omega arith)
+  two-lists s u (a-date-time f v y j p e) (a-time r c q i) k = let m : Alike (dateTimeList f v y) (timeList r) = rw (e, i) at k in let z = m .basic-is in
+      absurd (omega arith)
   two-lists s u (a-date-time f v y j p e) (a-date-time g r z c q i) k =
       let m : Alike (dateTimeList f v y) (dateTimeList g r z) = rw (e, i) at k in
       let n : f ≡ g = by-number dateNumber dateAt date-back f g (m .date-is) in
@@ -230,14 +237,16 @@ module _ (limits : Limits) (l : List ℕ) (t : «Type») (h : typeOf limits l �
           two-lists limits l t h (splitOn 32 p) (splitOn 32 q) (type-text l (p ∷ q ∷ []) e) (either-way p q (n .0) (m .0)) (listOf p) (listOf q)
           (list-arranged p (usable-read (listOf p) (r .0))) (list-arranged q (usable-read (listOf q) (r .1))) (alike (listOf p) (listOf q) (r .3) (r .2))
         where
-          tests : (u v e r : Bool) (x : TypeRead) → cond (true && (u && (v && true)) && ((not e && true) && true)) (cond (r && true) x TypeRead.NoRow) TypeRead.Unreadable ≡ TypeRead.«Type» t
+          tests : (u v e r : Bool) (x : TypeRead) → cond (true && (u && (v && true)) && ((not e && true) && true)) (cond (r && true) x TypeRead.NoRow)
+              TypeRead.Unreadable ≡ TypeRead.«Type» t
               → (u ≡ true) × (v ≡ true) × (e ≡ false) × (r ≡ true)
           tests true true false true x j = (refl, refl, refl, refl)
           tests true true false false x j = absurd (let z : _≡_ {A = ℕ} 0 1 = cc in omega arith)
           tests true true true r x j = absurd (let z : _≡_ {A = ℕ} 0 1 = cc in omega arith)
           tests true false e r x j = absurd (let z : _≡_ {A = ℕ} 0 1 = cc in omega arith)
           tests false v e r x j = absurd (let z : _≡_ {A = ℕ} 0 1 = cc in omega arith)
-      go (p ∷ q ∷ o ∷ ps) e k j = absurd (too-many (map listOf ps) (allOf (usable limits) (map listOf (p ∷ q ∷ o ∷ ps))) (distinct (map listOf (p ∷ q ∷ o ∷ ps))) (kept _ _ t j))
+      go (p ∷ q ∷ o ∷ ps) e k j = absurd (too-many (map listOf ps) (allOf (usable limits) (map listOf (p ∷ q ∷ o ∷ ps)))
+          (distinct (map listOf (p ∷ q ∷ o ∷ ps))) (kept _ _ t j))
 
 -- ---- the law
 

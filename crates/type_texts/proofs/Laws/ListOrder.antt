@@ -8,7 +8,8 @@ use borrow.Author.Tests.{eq-eqb, ne-eqb, eqb-true, eqb-false}
 use Rattle.octets.specs.Octets.{bytes}
 use Rattle.types.specs.Types.{limitedTo}
 use Rattle.lists.specs.Lists.{basicIn, dateIn, yearIn, timeIn, zoneIn, listOf}
-use Rattle.type_texts.specs.TypeTexts.{listsOf, sameButYear, yearFamily, oneRow, equalLists, allOf, distinct, usable, member, yearsOf, listType, joined, typeOf}
+use Rattle.type_texts.specs.TypeTexts.{listsOf, sameButYear, yearFamily, oneRow, equalLists, allOf, distinct, usable, member, yearsOf, listType, joined}
+use Rattle.type_texts.specs.TypeTexts.{typeOf}
 use Rattle.type_texts.specs.Written.{joinWith}
 use Rattle.types.specs.declared.types.Limits.{Limits}
 use Rattle.types.specs.declared.types.TypeRead.{TypeRead}

@@ -104,11 +104,13 @@ module _ (limits : Limits) (l : List ℕ) where
     where
       go : (ps : List (List ℕ)) → splitOn 124 l ≡ ps → allOf (lacks 124) ps ≡ true → joined limits (map listOf ps) ≡ TypeRead.NoRow → TwoRows limits l
       go [] e k j = absurd (let z : _≡_ {A = ℕ} 0 1 = cc in omega arith)
-      go (p ∷ []) e k j = absurd (limited-not limits (listType (listOf p) (yearIn (listOf p) ∷ [])) (passed (true && (usable limits (listOf p) && true) && true) _ j .1))
+      go (p ∷ []) e k j = absurd (limited-not limits (listType (listOf p) (yearIn (listOf p) ∷ []))
+          (passed (true && (usable limits (listOf p) && true) && true) _ j .1))
       go (p ∷ q ∷ []) e k j =
           let n : (lacks 124 p ≡ true) × (lacks 124 q && true ≡ true) = and-eq-true-iff _ _ .0 k in
           let m : (lacks 124 q ≡ true) × (true ≡ true) = and-eq-true-iff _ _ .0 (n .1) in
-          let r = tests (usable limits (listOf p)) (usable limits (listOf q)) (equalLists (listOf p) (listOf q)) (oneRow (listOf p) (listOf q)) _ (limited-not limits (listType (listOf p) (yearIn (listOf p) ∷ yearIn (listOf q) ∷ []))) j in
+          let r = tests (usable limits (listOf p)) (usable limits (listOf q)) (equalLists (listOf p) (listOf q)) (oneRow (listOf p) (listOf q)) _
+          (limited-not limits (listType (listOf p) (yearIn (listOf p) ∷ yearIn (listOf q) ∷ []))) j in
           record {
             first = p;
             second = q;
@@ -118,7 +120,8 @@ module _ (limits : Limits) (l : List ℕ) where
             differ = λ i. held (same-are-equal _ _ i) (r .2);
             apart = λ o. held (only-years-row _ _ o) (r .3);
           }
-      go (p ∷ q ∷ o ∷ ps) e k j = absurd (too-many (map listOf ps) (allOf (usable limits) (map listOf (p ∷ q ∷ o ∷ ps))) (distinct (map listOf (p ∷ q ∷ o ∷ ps))) (passed _ _ j .0))
+      go (p ∷ q ∷ o ∷ ps) e k j = absurd (too-many (map listOf ps) (allOf (usable limits) (map listOf (p ∷ q ∷ o ∷ ps)))
+          (distinct (map listOf (p ∷ q ∷ o ∷ ps))) (passed _ _ j .0))
 
   -- Only two lists that don't make one row are refusal 2.
   pub no-row-only : typeOf limits l ≡ TypeRead.NoRow → TwoRows limits l

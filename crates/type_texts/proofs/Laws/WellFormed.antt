@@ -13,7 +13,8 @@ use Rattle.octets.specs.Pieces.{splitOn}
 use Rattle.octets.proofs.Laws.Cases.{cond-le}
 use Rattle.types.specs.Types.{DATE, TIME-OF-DAY, DATE-TIME, hasDate, hasTime, placed, restricted, limitedTo, someYear, wellParts, wellFormed, partsOf, carrying}
 use Rattle.lists.specs.Words.{placeIn, yearWords, clockWords, fractionWords, withDigits, fractionNumber, firstNumber, pairOf}
-use Rattle.lists.specs.Lists.{settings, noneYet, refusedList, addPair, addPairs, basicIn, dateIn, yearIn, timeIn, zoneIn, datedList, timedList, presentIf, complete, completed, listOf}
+use Rattle.lists.specs.Lists.{settings, noneYet, refusedList, addPair, addPairs, basicIn, dateIn, yearIn, timeIn, zoneIn, datedList, timedList, presentIf}
+use Rattle.lists.specs.Lists.{complete, completed, listOf}
 use Rattle.type_texts.specs.TypeTexts.{listsOf, allOf, usable, distinct, oneRow, member, yearsOf, timeAt, listType, joined, typeOf}
 use Rattle.types.specs.declared.types.Years.{Years}
 use Rattle.types.specs.declared.types.Parts.{Parts}
@@ -118,7 +119,8 @@ some-year zero ys h k = absurd (omega arith)
 some-year (suc zero) ys h k = refl
 some-year (suc (suc zero)) ys h k = go (member 1 ys) where
   go : (a : Bool) →
-      someYear (cond (a || true) (Years.Plain (record { basic = a; proleptic = true })) (Years.Signed (record { negative = member 3 ys; five = member 4 ys }))) ≡ true
+      someYear (cond (a || true) (Years.Plain (record { basic = a; proleptic = true }))
+      (Years.Signed (record { negative = member 3 ys; five = member 4 ys }))) ≡ true
   go true = refl
   go false = refl
 some-year (suc (suc (suc zero))) ys h k = go (member 1 ys) (member 2 ys) where
@@ -144,7 +146,8 @@ third false b c d e h = absurd (false≢true h)
 dated-year : (s : Settings) → complete s ≡ true → eqb (basicIn s) 2 ≡ false → 0 < yearIn s
 unfolding complete datedList
 dated-year s c e =
-    let z : presentIf (not (eqb (basicIn s) 2)) (yearIn s) ≡ true = third (not (eqb (basicIn s) 0)) (presentIf (datedList s) (dateIn s)) (presentIf (datedList s) (yearIn s)) (presentIf (timedList s) (timeIn s)) (presentIf (timedList s) (zoneIn s)) c in
+    let z : presentIf (not (eqb (basicIn s) 2)) (yearIn s) ≡ true = third (not (eqb (basicIn s) 0)) (presentIf (datedList s) (dateIn s))
+    (presentIf (datedList s) (yearIn s)) (presentIf (timedList s) (timeIn s)) (presentIf (timedList s) (zoneIn s)) c in
     let y : not (eqb (yearIn s) 0) ≡ true = rw e at z in
     let n : yearIn s ≡ 0 → ⊥ = eqb-false (yearIn s) 0 (not-true _ y) in
     omega arith
@@ -206,7 +209,8 @@ unfolding joined allOf usable
 good-joined limits s r h =
     good-cond (leb (length (s ∷ r)) 2 && allOf (usable limits) (s ∷ r) && distinct (s ∷ r)) _ _
     (λ e.
-    let v : s .readable ≡ true = second (leb (length (s ∷ r)) 2) (s .readable) (placed limits (datedList s) (timedList s)) (allOf (usable limits) r) (distinct (s ∷ r)) e in
+    let v : s .readable ≡ true = second (leb (length (s ∷ r)) 2) (s .readable) (placed limits (datedList s) (timedList s)) (allOf (usable limits) r)
+    (distinct (s ∷ r)) e in
     good-cond (allOf (oneRow s) r) _ _ (λ f. good-limited limits (listType s (map yearIn (s ∷ r))) (list-well-formed s (map yearIn r) (h v))) tt)
     tt
 

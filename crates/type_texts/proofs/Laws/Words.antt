@@ -14,7 +14,8 @@ use Rattle.lists.specs.Lists.{settings, refusedList, addPair, addPairs}
 use Rattle.lists.specs.declared.words.Pair.{Pair}
 use Rattle.lists.specs.declared.lists.Settings.{Settings}
 use Rattle.lists.proofs.Laws.Spelled as spelled
-use Rattle.lists.proofs.Laws.Spelled.{Word as Spelled, date-Y, date-YM, date-YMD, date-YD, date-YW, date-YWD, year-basic, year-proleptic, year-negative, year-L5, time-H, time-HM, time-HMS, time-HF, time-HMF, time-HMSF, zone-L, zone-Z, zone-LD}
+use Rattle.lists.proofs.Laws.Spelled.{Word as Spelled, date-Y, date-YM, date-YMD, date-YD, date-YW, date-YWD, year-basic, year-proleptic, year-negative}
+use Rattle.lists.proofs.Laws.Spelled.{year-L5, time-H, time-HM, time-HMS, time-HF, time-HMF, time-HMSF, zone-L, zone-Z, zone-LD}
 use Rattle.texts.specs.declared.forms.DateForm.{DateForm}
 use Rattle.texts.specs.declared.forms.ClockForm.{ClockForm}
 use Rattle.texts.specs.declared.forms.ZoneForm.{ZoneForm}

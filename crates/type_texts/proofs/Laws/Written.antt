@@ -13,8 +13,10 @@ use Rattle.types.specs.Numbers.{dateNumber, dateAt, clockNumber, clockAt, zoneN
 use Rattle.types.specs.Types.{unlimitedDate, unlimitedTime, listed, hasDate, hasTime, placed, limitedTo, someYear}
 use Rattle.lists.specs.Words.{placeFrom, fractionNumber, pair, pairOf}
 use Rattle.lists.specs.Lists.{settings, noneYet, addPair, addPairs, datedList, timedList, complete, completed, listOf}
-use Rattle.type_texts.specs.TypeTexts.{listsOf, sameButYear, yearFamily, oneRow, equalLists, allOf, distinct, usable, member, yearsOf, timeAt, listType, joined, typeOf}
-use Rattle.type_texts.specs.Written.{dateWord, YearSetting, basic, proleptic, negative, five, yearWord, clockWord, timeWord, zoneWord, datePairs, timePairs, dateTimePairs, namedYears, joinWith, typeText, Arranged, end, more}
+use Rattle.type_texts.specs.TypeTexts.{listsOf, sameButYear, yearFamily, oneRow, equalLists, allOf, distinct, usable, member, yearsOf, timeAt, listType}
+use Rattle.type_texts.specs.TypeTexts.{joined, typeOf}
+use Rattle.type_texts.specs.Written.{dateWord, YearSetting, basic, proleptic, negative, five, yearWord, clockWord, timeWord, zoneWord, datePairs}
+use Rattle.type_texts.specs.Written.{timePairs, dateTimePairs, namedYears, joinWith, typeText, Arranged, end, more}
 use Rattle.texts.specs.declared.forms.DateForm.{DateForm}
 use Rattle.texts.specs.declared.forms.ClockForm.{ClockForm}
 use Rattle.texts.specs.declared.forms.ZoneForm.{ZoneForm}
@@ -233,28 +235,29 @@ pub record ListText (ws : List (List ℕ)) (s : Settings) : Type 0 where
   pub bar : lacks 124 (joinWith 32 ws) ≡ true
   pub equals : lacks 61 (joinWith 32 ws) ≡ false
 
-module _ (vs : List (List ℕ)) (s : Settings) (some : 0 < length vs) (words : allOf isWord vs ≡ true) (read : completed (addPairs (settings noneYet) vs) ≡ s) where
-  word-parts : (w : List ℕ) → isWord w ≡ true → (lacks 32 w ≡ true) × (lacks 124 w ≡ true) × (lacks 61 w ≡ false)
-  unfolding isWord
-  word-parts w e =
-      let p : (lacks 32 w ≡ true) × (lacks 124 w && not (lacks 61 w) ≡ true) = and-eq-true-iff _ _ .0 e in
-      let q : (lacks 124 w ≡ true) × (not (lacks 61 w) ≡ true) = and-eq-true-iff _ _ .0 (p .1) in
-      (p .0, q .0, not-true _ (q .1))
+module _ (vs : List (List ℕ)) (s : Settings) (some : 0 < length vs) (words : allOf isWord vs ≡ true) (read : completed (addPairs (settings noneYet) vs) ≡ s)
+  where
+    word-parts : (w : List ℕ) → isWord w ≡ true → (lacks 32 w ≡ true) × (lacks 124 w ≡ true) × (lacks 61 w ≡ false)
+    unfolding isWord
+    word-parts w e =
+        let p : (lacks 32 w ≡ true) × (lacks 124 w && not (lacks 61 w) ≡ true) = and-eq-true-iff _ _ .0 e in
+        let q : (lacks 124 w ≡ true) × (not (lacks 61 w) ≡ true) = and-eq-true-iff _ _ .0 (p .1) in
+        (p .0, q .0, not-true _ (q .1))
 
-  -- Pairs in any order are the text of their list.
-  pub list-text : (ws : List (List ℕ)) → List·Permᴰ ws vs → ListText ws s
-  unfolding listOf allOf
-  list-text [] d = absurd (omega (arith, length-perm d))
-  list-text (w ∷ ws) d =
-      let e : allOf isWord (w ∷ ws) ≡ true = all-perm isWord d ∙ words in
-      let f : (isWord w ≡ true) × (allOf isWord ws ≡ true) = and-eq-true-iff _ _ .0 e in
-      record {
-        reads =
-            rw (split-join 32 w ws refl (all-weaken isWord (lacks 32) (λ x h. word-parts x h .0) (w ∷ ws) e), pairs-perm (settings noneYet) refl d)
-            read;
-        bar = lacks-join 124 32 (w ∷ ws) refl (all-weaken isWord (lacks 124) (λ x h. word-parts x h .1) (w ∷ ws) e);
-        equals = has-join 61 32 w ws (word-parts w (f .0) .2);
-      }
+    -- Pairs in any order are the text of their list.
+    pub list-text : (ws : List (List ℕ)) → List·Permᴰ ws vs → ListText ws s
+    unfolding listOf allOf
+    list-text [] d = absurd (omega (arith, length-perm d))
+    list-text (w ∷ ws) d =
+        let e : allOf isWord (w ∷ ws) ≡ true = all-perm isWord d ∙ words in
+        let f : (isWord w ≡ true) × (allOf isWord ws ≡ true) = and-eq-true-iff _ _ .0 e in
+        record {
+          reads =
+              rw (split-join 32 w ws refl (all-weaken isWord (lacks 32) (λ x h. word-parts x h .0) (w ∷ ws) e), pairs-perm (settings noneYet) refl d)
+              read;
+          bar = lacks-join 124 32 (w ∷ ws) refl (all-weaken isWord (lacks 124) (λ x h. word-parts x h .1) (w ∷ ws) e);
+          equals = has-join 61 32 w ws (word-parts w (f .0) .2);
+        }
 
 -- ---- A type's text is no name, and each of its lists is read.
 
@@ -269,33 +272,35 @@ names-lack : (lacks 61 (bytes "DATE") ≡ true) × (lacks 61 (bytes "TIME-OF-DAY
 unfolding lacks
 names-lack = (refl, refl, refl)
 
-module _ (f : YearSetting → List (List ℕ)) (g : YearSetting → Settings) (k : (y : YearSetting) (ws : List (List ℕ)) → List·Permᴰ ws (f y) → ListText ws (g y)) where
-  lists-read : (ys : List YearSetting) {wss : List (List (List ℕ))} → Arranged wss (map f ys) →
-      map listOf (map (joinWith 32) wss) ≡ map g ys
-  lists-read [] end = refl
-  lists-read (y ∷ ys) (more d r) = rw (k y _ d .reads, lists-read ys r)
+module _ (f : YearSetting → List (List ℕ)) (g : YearSetting → Settings) (k : (y : YearSetting) (ws : List (List ℕ)) → List·Permᴰ ws (f y) → ListText ws (g y))
+  where
+    lists-read : (ys : List YearSetting) {wss : List (List (List ℕ))} → Arranged wss (map f ys) →
+        map listOf (map (joinWith 32) wss) ≡ map g ys
+    lists-read [] end = refl
+    lists-read (y ∷ ys) (more d r) = rw (k y _ d .reads, lists-read ys r)
 
-  no-bars : (ys : List YearSetting) {wss : List (List (List ℕ))} → Arranged wss (map f ys) →
-      allOf (lacks 124) (map (joinWith 32) wss) ≡ true
-  unfolding allOf
-  no-bars [] end = refl
-  no-bars (y ∷ ys) (more d r) = rw (k y _ d .bar, no-bars ys r)
+    no-bars : (ys : List YearSetting) {wss : List (List (List ℕ))} → Arranged wss (map f ys) →
+        allOf (lacks 124) (map (joinWith 32) wss) ≡ true
+    unfolding allOf
+    no-bars [] end = refl
+    no-bars (y ∷ ys) (more d r) = rw (k y _ d .bar, no-bars ys r)
 
-  -- The lists of a text are read and joined.
-  pub text-read : (limits : Limits) (y : YearSetting) (ys : List YearSetting) {wss : List (List (List ℕ))} →
-      Arranged wss (map f (y ∷ ys)) →
-      typeOf limits (typeText wss) ≡ joined limits (map g (y ∷ ys))
-  unfolding typeOf typeText listsOf
-  text-read limits y ys (more {ws} {vs} {wss} d r) =
-      let e : lacks 61 (joinWith 124 (joinWith 32 ws ∷ map (joinWith 32) wss)) ≡ false = has-join 61 124 (joinWith 32 ws) (map (joinWith 32) wss) (k y ws d .equals) in
-      rw (
-        not-it 61 _ _ e (names-lack .0),
-        not-it 61 _ _ e (names-lack .1),
-        not-it 61 _ _ e (names-lack .2),
-        split-join 124 (joinWith 32 ws) (map (joinWith 32) wss) refl (no-bars (y ∷ ys) (more d r)),
-        k y ws d .reads,
-        lists-read ys r,
-      )
+    -- The lists of a text are read and joined.
+    pub text-read : (limits : Limits) (y : YearSetting) (ys : List YearSetting) {wss : List (List (List ℕ))} →
+        Arranged wss (map f (y ∷ ys)) →
+        typeOf limits (typeText wss) ≡ joined limits (map g (y ∷ ys))
+    unfolding typeOf typeText listsOf
+    text-read limits y ys (more {ws} {vs} {wss} d r) =
+        let e : lacks 61 (joinWith 124 (joinWith 32 ws ∷ map (joinWith 32) wss)) ≡ false = has-join 61 124 (joinWith 32 ws) (map (joinWith 32) wss)
+        (k y ws d .equals) in
+        rw (
+          not-it 61 _ _ e (names-lack .0),
+          not-it 61 _ _ e (names-lack .1),
+          not-it 61 _ _ e (names-lack .2),
+          split-join 124 (joinWith 32 ws) (map (joinWith 32) wss) refl (no-bars (y ∷ ys) (more d r)),
+          k y ws d .reads,
+          lists-read ys r,
+        )
 
 -- ---- The lists of a type make the type.
 

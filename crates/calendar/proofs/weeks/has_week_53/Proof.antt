@@ -25,7 +25,12 @@ leap-year-requires c κs = search needs
 returns-3 : tie.Need-returns-3
 unfolding weeksFrom
 returns-3 c =
-    thursday _ ∙ simp (← c .before .before .before .new-year-weekday .ensures, ne-eqb _ _ (c .before .before .if1 .left), eq-eqb _ _ (c .before .if2 .left), c .leap-year .ensures)
+    thursday _ ∙ simp (
+      ← c .before .before .before .new-year-weekday .ensures,
+      ne-eqb _ _ (c .before .before .if1 .left),
+      eq-eqb _ _ (c .before .if2 .left),
+      c .leap-year .ensures,
+    )
 
 pub has-week-53-spec : {M : Type 1} → statement M
 has-week-53-spec =

@@ -12,7 +12,8 @@ use Rattle.lines.proofs.hex.put_hex.Statement.{statement}
 use Rattle.lines.proofs.hex.put_hex.Tie as tie
 
 abbrev Inv-loop : tie.InvT-loop
-Inv-loop room₀ at octets place₀ i₀ room place i = (place ≡ at + 2 * i) × (i ≤ length octets) × (length room ≡ length room₀) × (sets room place (toHex (drop i octets)) ≡ sets room₀ at (toHex octets))
+Inv-loop room₀ at octets place₀ i₀ room place i = (place ≡ at + 2 * i) × (i ≤ length octets) × (length room ≡ length room₀)
+    × (sets room place (toHex (drop i octets)) ≡ sets room₀ at (toHex octets))
 
 abbrev μ-loop : tie.MeasureT-loop
 μ-loop room₀ at octets place₀ i₀ room place i = length octets - i
@@ -48,8 +49,13 @@ loop-less : tie.Need-loop-less Inv-loop μ-loop
 loop-less c = search needs
 
 loop-again : tie.Need-loop-again Inv-loop μ-loop
-loop-again c =
-    (omega arith, omega arith, simp length-set (c .before .before .before .before .loop .inv .2), rw (c .before .hex-digit .ensures, c .hex-digit2 .ensures) (sym (pair-put _ _ _ _ (c .before .before .before .loop-test .taken)) ∙ c .before .before .before .before .loop .inv .3))
+loop-again c = (
+  omega arith,
+  omega arith,
+  simp length-set (c .before .before .before .before .loop .inv .2),
+  rw (c .before .hex-digit .ensures, c .hex-digit2 .ensures)
+      (sym (pair-put _ _ _ _ (c .before .before .before .loop-test .taken)) ∙ c .before .before .before .before .loop .inv .3),
+)
 
 same-length : tie.Need-same-length Inv-loop μ-loop
 same-length c = search needs

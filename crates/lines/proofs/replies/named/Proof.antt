@@ -59,7 +59,8 @@ returns-4 : tie.Need-returns-4
 unfolding entryNamed
 returns-4 c =
     rw (
-      sym (c .before .before .before .before .before .before .before .before .before .before .same .ensures) ∙ c .before .before .before .before .before .before .before .before .before .if1 .left,
+      sym (c .before .before .before .before .before .before .before .before .before .before .same .ensures)
+          ∙ c .before .before .before .before .before .before .before .before .before .if1 .left,
       sym (c .before .before .before .before .before .before .before .same2 .ensures) ∙ c .before .before .before .before .before .before .if2 .left,
       sym (c .before .before .before .before .same3 .ensures) ∙ c .before .before .before .if3 .left,
       sym (c .before .same4 .ensures) ∙ c .if4 .taken,
@@ -70,7 +71,8 @@ returns-5 : tie.Need-returns-5
 unfolding entryNamed
 returns-5 c =
     rw (
-      sym (c .before .before .before .before .before .before .before .before .before .before .same .ensures) ∙ c .before .before .before .before .before .before .before .before .before .if1 .left,
+      sym (c .before .before .before .before .before .before .before .before .before .before .same .ensures)
+          ∙ c .before .before .before .before .before .before .before .before .before .if1 .left,
       sym (c .before .before .before .before .before .before .before .same2 .ensures) ∙ c .before .before .before .before .before .before .if2 .left,
       sym (c .before .before .before .before .same3 .ensures) ∙ c .before .before .before .if3 .left,
       sym (c .before .same4 .ensures) ∙ c .if4 .left,

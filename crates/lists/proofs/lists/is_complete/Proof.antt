@@ -65,7 +65,8 @@ returns-4 c =
       ne-eqb _ _ (c .before .before .before .before .before .before .before .before .before .if1 .left),
       ← c .before .before .before .before .before .before .before .before .before .before .before .before .list-has-date .ensures,
       ← c .before .before .before .before .before .before .before .before .before .before .before .list-has-time .ensures,
-      sym (c .before .before .before .before .before .before .before .present-if .ensures) ∙ not-false _ (c .before .before .before .before .before .before .if2 .left),
+      sym (c .before .before .before .before .before .before .before .present-if .ensures)
+          ∙ not-false _ (c .before .before .before .before .before .before .if2 .left),
       sym (c .before .before .before .before .present-if2 .ensures) ∙ not-false _ (c .before .before .before .if3 .left),
       sym (c .before .present-if3 .ensures) ∙ not-true _ (c .if4 .taken),
     )
@@ -83,7 +84,8 @@ returns-5 c =
       ne-eqb _ _ (c .before .before .before .before .before .before .before .before .before .before .before .if1 .left),
       ← c .before .before .before .before .before .before .before .before .before .before .before .before .before .before .list-has-date .ensures,
       ← c .before .before .before .before .before .before .before .before .before .before .before .before .before .list-has-time .ensures,
-      sym (c .before .before .before .before .before .before .before .before .before .present-if .ensures) ∙ not-false _ (c .before .before .before .before .before .before .before .before .if2 .left),
+      sym (c .before .before .before .before .before .before .before .before .before .present-if .ensures)
+          ∙ not-false _ (c .before .before .before .before .before .before .before .before .if2 .left),
       sym (c .before .before .before .before .before .before .present-if2 .ensures) ∙ not-false _ (c .before .before .before .before .before .if3 .left),
       sym (c .before .before .before .present-if3 .ensures) ∙ not-false _ (c .before .before .if4 .left),
     )

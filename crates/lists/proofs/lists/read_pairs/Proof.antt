@@ -40,7 +40,9 @@ add-requires : tie.Need-add-requires Inv-loop μ-loop
 add-requires c κs = rw (c .read-pair .ensures) (five-properties _)
 
 returns : tie.Need-returns Inv-loop μ-loop
-returns c = sym (c .before .before .before .before .before .before .loop .inv .1 ∙ last-pair _ _ _ _ _ _ (c .before .before .before .before .find .ensures) (c .before .before .read-pair .ensures) (c .before .add .ensures) (c .before .before .before .before .before .before .loop .inv .0) (c .if1 .taken))
+returns c = sym (c .before .before .before .before .before .before .loop .inv .1
+    ∙ last-pair _ _ _ _ _ _ (c .before .before .before .before .find .ensures) (c .before .before .read-pair .ensures) (c .before .add .ensures)
+    (c .before .before .before .before .before .before .loop .inv .0) (c .if1 .taken))
 
 add-from : tie.Need-add-from Inv-loop μ-loop
 add-from c = search needs
@@ -49,7 +51,12 @@ loop-less : tie.Need-loop-less Inv-loop μ-loop
 loop-less c = search needs
 
 loop-again : tie.Need-loop-again Inv-loop μ-loop
-loop-again c = (omega arith, c .before .before .before .before .before .before .loop .inv .1 ∙ next-pair _ _ _ _ _ _ (c .before .before .before .before .find .ensures) (c .before .before .read-pair .ensures) (c .before .add .ensures) (c .if1 .left))
+loop-again c = (
+  omega arith,
+  c .before .before .before .before .before .before .loop .inv .1
+      ∙ next-pair _ _ _ _ _ _ (c .before .before .before .before .find .ensures) (c .before .before .read-pair .ensures) (c .before .add .ensures)
+      (c .if1 .left),
+)
 
 returns-2 : tie.Need-returns-2 Inv-loop μ-loop
 returns-2 c = absurd (omega arith)

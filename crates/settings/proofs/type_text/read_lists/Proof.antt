@@ -57,7 +57,9 @@ two-lists-requires c κs = search needs
 returns-3 : tie.Need-returns-3
 returns-3 c =
     rw (
-      two-lists _ _ _ (c .before .before .before .before .before .before .before .before .find .ensures) (c .before .before .before .before .before .before .before .if1 .left) (c .before .before .before .before .before .before .find2 .ensures) (c .before .before .before .before .before .if2 .left),
+      two-lists _ _ _ (c .before .before .before .before .before .before .before .before .find .ensures)
+          (c .before .before .before .before .before .before .before .if1 .left) (c .before .before .before .before .before .before .find2 .ensures)
+          (c .before .before .before .before .before .if2 .left),
       ← c .before .before .before .read-list2 .ensures,
       ← c .before .read-list3 .ensures,
     )

@@ -49,7 +49,8 @@ returns-3 : tie.Need-returns-3
 unfolding typeOf
 returns-3 c =
     rw (
-      sym (c .before .before .before .before .before .before .before .before .same .ensures) ∙ c .before .before .before .before .before .before .before .if1 .left,
+      sym (c .before .before .before .before .before .before .before .before .same .ensures)
+          ∙ c .before .before .before .before .before .before .before .if1 .left,
       sym (c .before .before .before .before .before .same2 .ensures) ∙ c .before .before .before .before .if2 .left,
       sym (c .before .before .same3 .ensures) ∙ c .before .if3 .taken,
     )
@@ -62,7 +63,8 @@ returns-4 : tie.Need-returns-4
 unfolding typeOf
 returns-4 c =
     rw (
-      sym (c .before .before .before .before .before .before .before .before .same .ensures) ∙ c .before .before .before .before .before .before .before .if1 .left,
+      sym (c .before .before .before .before .before .before .before .before .same .ensures)
+          ∙ c .before .before .before .before .before .before .before .if1 .left,
       sym (c .before .before .before .before .before .same2 .ensures) ∙ c .before .before .before .before .if2 .left,
       sym (c .before .before .same3 .ensures) ∙ c .before .if3 .left,
     )

@@ -46,7 +46,8 @@ returns-4 : tie.Need-returns-4
 unfolding joined allOf distinct equalLists oneRow
 returns-4 c =
     rw (
-      sym (c .before .before .before .before .before .before .before .before .is-usable .ensures) ∙ not-false _ (c .before .before .before .before .before .before .before .if1 .left),
+      sym (c .before .before .before .before .before .before .before .before .is-usable .ensures)
+          ∙ not-false _ (c .before .before .before .before .before .before .before .if1 .left),
       sym (c .before .before .before .before .before .before .is-usable2 .ensures) ∙ not-false _ (c .before .before .before .before .before .if2 .left),
       sym (c .before .before .before .before .same-but-year .ensures) ∙ not-false _ (c .before .before .before .if3 .left),
       eq-eqb _ _ (c .if4 .taken),
@@ -62,9 +63,12 @@ returns-5 : tie.Need-returns-5
 unfolding joined allOf distinct equalLists oneRow
 returns-5 c =
     rw (
-      sym (c .before .before .before .before .before .before .before .before .before .before .before .is-usable .ensures) ∙ not-false _ (c .before .before .before .before .before .before .before .before .before .before .if1 .left),
-      sym (c .before .before .before .before .before .before .before .before .before .is-usable2 .ensures) ∙ not-false _ (c .before .before .before .before .before .before .before .before .if2 .left),
-      sym (c .before .before .before .before .before .before .before .same-but-year .ensures) ∙ not-false _ (c .before .before .before .before .before .before .if3 .left),
+      sym (c .before .before .before .before .before .before .before .before .before .before .before .is-usable .ensures)
+          ∙ not-false _ (c .before .before .before .before .before .before .before .before .before .before .if1 .left),
+      sym (c .before .before .before .before .before .before .before .before .before .is-usable2 .ensures)
+          ∙ not-false _ (c .before .before .before .before .before .before .before .before .if2 .left),
+      sym (c .before .before .before .before .before .before .before .same-but-year .ensures)
+          ∙ not-false _ (c .before .before .before .before .before .before .if3 .left),
       ne-eqb _ _ (c .before .before .before .if4 .left),
       ← c .before .before .year-family .ensures,
       ← c .before .year-family2 .ensures,
@@ -78,9 +82,12 @@ returns-6 : tie.Need-returns-6
 unfolding joined allOf distinct equalLists oneRow
 returns-6 c =
     rw (
-      sym (c .before .before .before .before .before .before .before .before .before .before .before .before .is-usable .ensures) ∙ not-false _ (c .before .before .before .before .before .before .before .before .before .before .before .if1 .left),
-      sym (c .before .before .before .before .before .before .before .before .before .before .is-usable2 .ensures) ∙ not-false _ (c .before .before .before .before .before .before .before .before .before .if2 .left),
-      sym (c .before .before .before .before .before .before .before .before .same-but-year .ensures) ∙ not-false _ (c .before .before .before .before .before .before .before .if3 .left),
+      sym (c .before .before .before .before .before .before .before .before .before .before .before .before .is-usable .ensures)
+          ∙ not-false _ (c .before .before .before .before .before .before .before .before .before .before .before .if1 .left),
+      sym (c .before .before .before .before .before .before .before .before .before .before .is-usable2 .ensures)
+          ∙ not-false _ (c .before .before .before .before .before .before .before .before .before .if2 .left),
+      sym (c .before .before .before .before .before .before .before .before .same-but-year .ensures)
+          ∙ not-false _ (c .before .before .before .before .before .before .before .if3 .left),
       ne-eqb _ _ (c .before .before .before .before .if4 .left),
       ← c .before .before .before .year-family .ensures,
       ← c .before .before .year-family2 .ensures,

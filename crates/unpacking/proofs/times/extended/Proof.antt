@@ -44,13 +44,24 @@ enum-told-2 c = search needs
 returns-3 : tie.Need-returns-3
 returns-3 c =
     let e : 1 ≤ c .before .before .before .before .before .before .before .before .args .bit = omega arith in
-    let z : 1 ≤ c .enum-told2 .given .0 .0 = omega (arith, ap stepBelow (c .before .before .before .integer .given .1), ap below (c .enum-told2 .given .1)) in
-    (rw (extended-free _ e) (sym (step (seenInteger _) _ _ _ (c .before .before .before .before .before .free .ensures .0) (c .before .before .before .integer .given .1) ∙ ap (λ (i : Integer). run (natural (integerOf i)) (rest (c .before .before .before .before .before .before .before .before .args .octets .now) (c .before .before .before .integer .given .0 .1 .0))) (c .enum-told2 .given .1) ∙ negative-none _ _ z)), omega arith)
+    let z : 1 ≤ c .enum-told2 .given .0 .0 = omega (arith, ap stepBelow (c .before .before .before .integer .given .1), ap below (c .enum-told2 .given .1)) in (
+      rw (extended-free _ e) (sym (step (seenInteger _) _ _ _ (c .before .before .before .before .before .free .ensures .0)
+          (c .before .before .before .integer .given .1) ∙ ap (λ (i : Integer). run (natural (integerOf i))
+          (rest (c .before .before .before .before .before .before .before .before .args .octets .now) (c .before .before .before .integer .given .0 .1 .0)))
+          (c .enum-told2 .given .1) ∙ negative-none _ _ z)),
+      omega arith,
+    )
 
 returns-4 : tie.Need-returns-4
 returns-4 c =
-    let e : 1 ≤ c .before .before .before .before .before .before .before .before .before .args .bit = omega arith in
-    (rw (extended-free _ e) (sym (step (seenInteger _) _ _ _ (c .before .before .before .before .before .before .free .ensures .0) (c .before .before .before .before .integer .given .1) ∙ ap (λ (i : Integer). run (natural (integerOf i)) (rest (c .before .before .before .before .before .before .before .before .before .args .octets .now) (c .before .before .before .before .integer .given .0 .1 .0))) (c .before .integer2 .given .1) ∙ natural-some _ _)), omega (arith, ap integerPlace (c .before .before .before .before .integer .given .1)))
+    let e : 1 ≤ c .before .before .before .before .before .before .before .before .before .args .bit = omega arith in (
+      rw (extended-free _ e) (sym (step (seenInteger _) _ _ _ (c .before .before .before .before .before .before .free .ensures .0)
+          (c .before .before .before .before .integer .given .1) ∙ ap (λ (i : Integer). run (natural (integerOf i))
+          (rest (c .before .before .before .before .before .before .before .before .before .args .octets .now)
+          (c .before .before .before .before .integer .given .0 .1 .0))) (c .before .integer2 .given .1) ∙ natural-some _ _)),
+      omega
+          (arith, ap integerPlace (c .before .before .before .before .integer .given .1)),
+    )
 
 pub extended-spec : {M : Type 1} → statement M
 extended-spec =

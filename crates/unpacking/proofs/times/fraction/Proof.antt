@@ -42,21 +42,38 @@ enum-told-2 c = search needs
 
 returns-3 : tie.Need-returns-3
 returns-3 c =
-    let e : 1 ≤ c .before .before .before .before .before .before .before .before .before .args .digits = omega arith in
-    (rw (fraction-some _ e) (sym (step (seen _) (aRanged 2) _ _ (c .before .before .before .before .before .before .ranged .ensures .0) (c .before .before .before .before .bit .given .1) ∙ step (seen _) _ _ _ (c .before .before .extended .ensures .0) (c .enum-told2 .given .1))), omega arith)
+    let e : 1 ≤ c .before .before .before .before .before .before .before .before .before .args .digits = omega arith in (
+      rw (fraction-some _ e) (sym (step (seen _) (aRanged 2) _ _ (c .before .before .before .before .before .before .ranged .ensures .0)
+          (c .before .before .before .before .bit .given .1) ∙ step (seen _) _ _ _ (c .before .before .extended .ensures .0) (c .enum-told2 .given .1))),
+      omega
+          arith,
+    )
 
 has-digits-requires : tie.Need-has-digits-requires
 has-digits-requires c κs = search needs
 
 returns-4 : tie.Need-returns-4
 returns-4 c =
-    let e : 1 ≤ c .before .before .before .before .before .before .before .before .before .before .before .before .args .digits = omega arith in
-    (rw (fraction-some _ e) (sym (step (seen _) (aRanged 2) _ _ (c .before .before .before .before .before .before .before .before .before .ranged .ensures .0) (c .before .before .before .before .before .before .before .bit .given .1) ∙ step (seen _) _ _ _ (c .before .before .before .before .before .extended .ensures .0) (c .before .before .before .number .given .1) ∙ required _ _ _ (sym (c .before .has-digits .ensures) ∙ c .if2 .taken))), omega (arith, ap place (c .before .before .before .before .before .before .before .bit .given .1), ap place (c .before .before .before .number .given .1)))
+    let e : 1 ≤ c .before .before .before .before .before .before .before .before .before .before .before .before .args .digits = omega arith in (
+      rw (fraction-some _ e) (sym (step (seen _) (aRanged 2) _ _
+          (c .before .before .before .before .before .before .before .before .before .ranged .ensures .0)
+          (c .before .before .before .before .before .before .before .bit .given .1)
+          ∙ step (seen _) _ _ _ (c .before .before .before .before .before .extended .ensures .0) (c .before .before .before .number .given .1)
+          ∙ required _ _ _ (sym (c .before .has-digits .ensures) ∙ c .if2 .taken))),
+      omega
+          (arith, ap place (c .before .before .before .before .before .before .before .bit .given .1), ap place (c .before .before .before .number .given .1)),
+    )
 
 returns-5 : tie.Need-returns-5
 returns-5 c =
-    let e : 1 ≤ c .before .before .before .before .before .before .before .before .before .before .before .before .args .digits = omega arith in
-    (rw (fraction-some _ e) (sym (step (seen _) (aRanged 2) _ _ (c .before .before .before .before .before .before .before .before .before .ranged .ensures .0) (c .before .before .before .before .before .before .before .bit .given .1) ∙ step (seen _) _ _ _ (c .before .before .before .before .before .extended .ensures .0) (c .before .before .before .number .given .1) ∙ not-required _ _ _ (sym (c .before .has-digits .ensures) ∙ c .if2 .left))), omega arith)
+    let e : 1 ≤ c .before .before .before .before .before .before .before .before .before .before .before .before .args .digits = omega arith in (
+      rw (fraction-some _ e) (sym (step (seen _) (aRanged 2) _ _
+          (c .before .before .before .before .before .before .before .before .before .ranged .ensures .0)
+          (c .before .before .before .before .before .before .before .bit .given .1)
+          ∙ step (seen _) _ _ _ (c .before .before .before .before .before .extended .ensures .0) (c .before .before .before .number .given .1)
+          ∙ not-required _ _ _ (sym (c .before .has-digits .ensures) ∙ c .if2 .left))),
+      omega arith,
+    )
 
 pub fraction-spec : {M : Type 1} → statement M
 fraction-spec =

@@ -38,7 +38,8 @@ add-t9 c = omega (arith, ap numberRead (c .before .number .given .1))
 returns-3 : tie.Need-returns-3
 returns-3 c =
     let e : 1 ≤ c .before .before .before .before .before .before .args .present = omega arith in
-    rw (minutes-some _ e, add-one) (sym (step (seen _) (aRanged 59) _ _ (c .before .before .before .ranged .ensures .0) (c .before .number .given .1) ∙ run-give _ _))
+    rw (minutes-some _ e, add-one) (sym (step (seen _) (aRanged 59) _ _ (c .before .before .before .ranged .ensures .0) (c .before .number .given .1)
+    ∙ run-give _ _))
 
 pub minutes-spec : {M : Type 1} → statement M
 minutes-spec =

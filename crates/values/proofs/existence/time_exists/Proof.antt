@@ -39,7 +39,13 @@ returns-2 : tie.Need-returns-2
 returns-2 c =
     let f = c .before in
     let k = f .before .before in
-    simp (asked k, not-false (k .clock-exists .result) (f .before .if1 .left), ← f .fraction-exists .ensures, not-true (f .fraction-exists .result) (c .if2 .taken))
+    simp (
+      asked k,
+      not-false (k .clock-exists .result) (f .before .if1 .left),
+      ← f .fraction-exists .ensures,
+      not-true (f .fraction-exists .result)
+          (c .if2 .taken),
+    )
 
 zone-exists-requires : tie.Need-zone-exists-requires
 zone-exists-requires c κs = search needs
@@ -48,7 +54,13 @@ returns-3 : tie.Need-returns-3
 returns-3 c =
     let f = c .before .before in
     let k = f .before .before in
-    simp (asked k, not-false (k .clock-exists .result) (f .before .if1 .left), ← f .fraction-exists .ensures, not-false (f .fraction-exists .result) (c .before .if2 .left))
+    simp (
+      asked k,
+      not-false (k .clock-exists .result) (f .before .if1 .left),
+      ← f .fraction-exists .ensures,
+      not-false (f .fraction-exists .result)
+          (c .before .if2 .left),
+    )
     (c .zone-exists .ensures)
 
 pub time-exists-spec : {M : Type 1} → statement M

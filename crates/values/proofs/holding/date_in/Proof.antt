@@ -28,13 +28,29 @@ returns-2 : tie.Need-returns-2
 unfolding admitsDate
 returns-2 c =
     let k = c .before .before .before .before .before .same-date-form .result in
-    simp (← c .before .before .before .before .before .before .date-form .ensures, ← c .before .before .before .before .before .same-date-form .ensures, not-false k (c .before .before .before .before .if1 .left), ← c .before .before .before .year-of .ensures, ← c .before .before .in-years .ensures, c .before .if2 .taken, c .in-window .ensures)
+    simp (
+      ← c .before .before .before .before .before .before .date-form .ensures,
+      ← c .before .before .before .before .before .same-date-form .ensures,
+      not-false k (c .before .before .before .before .if1 .left),
+      ← c .before .before .before .year-of .ensures,
+      ← c .before .before .in-years .ensures,
+      c .before .if2 .taken,
+      c .in-window .ensures,
+    )
 
 returns-3 : tie.Need-returns-3
 unfolding admitsDate
 returns-3 c =
     let k = c .before .before .before .before .same-date-form .result in
-    simp (← c .before .before .before .before .before .date-form .ensures, ← c .before .before .before .before .same-date-form .ensures, not-false k (c .before .before .before .if1 .left), ← c .before .before .year-of .ensures, ← c .before .in-years .ensures, c .if2 .left)
+    simp (
+      ← c .before .before .before .before .before .date-form .ensures,
+      ← c .before .before .before .before .same-date-form .ensures,
+      not-false k
+          (c .before .before .before .if1 .left),
+      ← c .before .before .year-of .ensures,
+      ← c .before .in-years .ensures,
+      c .if2 .left,
+    )
 
 pub date-in-spec : {M : Type 1} → statement M
 date-in-spec =

@@ -32,7 +32,15 @@ unfolding sameTimeForm
 returns-3 c =
     let d = c .before .before in
     let k = d .before .before .before .before in
-    simp (← k .before .clock-number .ensures, ← k .clock-number2 .ensures, eq-eqb _ _ (c .before .before .before .before .before .if1 .left), eq-eqb _ _ (d .if2 .left), c .before .zone-number .ensures, c .zone-number2 .ensures)
+    simp (
+      ← k .before .clock-number .ensures,
+      ← k .clock-number2 .ensures,
+      eq-eqb _ _ (c .before .before .before .before .before .if1 .left),
+      eq-eqb _ _
+          (d .if2 .left),
+      c .before .zone-number .ensures,
+      c .zone-number2 .ensures,
+    )
 
 pub same-time-form-spec : {M : Type 1} → statement M
 same-time-form-spec =

@@ -32,7 +32,14 @@ unfolding admitsTime
 returns-3 c =
     let k = c .before .before .before .same-time-form .result in
     let e : c .before .before .before .before .before .before .args .t .hour24 ≡ false = c .before .if2 .left in
-    simp (← c .before .before .before .before .time-form .ensures, ← c .before .before .before .same-time-form .ensures, not-false k (c .before .before .if1 .left), e, c .hours .ensures)
+    simp (
+      ← c .before .before .before .before .time-form .ensures,
+      ← c .before .before .before .same-time-form .ensures,
+      not-false k
+          (c .before .before .if1 .left),
+      e,
+      c .hours .ensures,
+    )
 
 pub time-in-spec : {M : Type 1} → statement M
 time-in-spec =
