@@ -153,7 +153,8 @@ struct Turn {
 
 // One read of the input.
 fn read_some(input: &mut [u8], output: &mut [u8], state: State) -> Turn
-    requires { ⌜ (state .held ≤ longestLine) × (longestLine < length (now input)) × (state .used ≤ length (now output)) × (replyCapacity ≤ length (now output)) ⌝ }
+    requires { ⌜ (state .held ≤ longestLine) × (longestLine < length (now input)) ⌝ }
+    requires { ⌜ (state .used ≤ length (now output)) × (replyCapacity ≤ length (now output)) ⌝ }
     ensures { λ r. ⌜ (r .state .held ≤ longestLine) × (r .state .used ≤ length (now (output .entry))) ⌝ }
 {
     let held = state.held;

@@ -58,7 +58,8 @@ pub limits-from-c : LimitsFromC
 unfolding limitsGiven windowGiven
 limits-from-c given = record {
   limits-are = λ z.
-      let g : limitsGiven given ≡ LimitsRead.Limits (record { window = windowGiven given; hour24 = eqb (given .no24) 0 }) = simp (eq-eqb (given .counts) 0 z) in (
+      let g : limitsGiven given ≡ LimitsRead.Limits (record { window = windowGiven given; hour24 = eqb (given .no24) 0 }) =
+      simp (eq-eqb (given .counts) 0 z) in (
         record { window = windowGiven given; hour24 = eqb (given .no24) 0 },
         record {
           every-year = λ y. simp (eq-eqb (given .years) 0 y);

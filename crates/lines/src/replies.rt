@@ -1,14 +1,13 @@
 // The replies. Each is stored at the front of the room, and its length is answered.
 ghost use mathlib.Core.Path.{_≡_};
 ghost use mathlib.Core.List.{_∷_, _++_};
+ghost use mathlib.Core.Option.{some};
 ghost use Prim.Native.Nat.{_+_, _*_, _<_, _≤_};
 ghost use lib.ListN.{length};
 ghost use Rattle.octets.specs.Octets.{bytes};
 ghost use Rattle.octets.specs.Stores.{StoredText};
 ghost use Rattle.printing.specs.Canonical.{textCapacity};
-ghost use Rattle.types.specs.Types.{noLimits};
-ghost use Rattle.exchanges.specs.Coding.{answerOf};
-ghost use Rattle.line_replies.specs.Lines.{answerShown, cutAgain, entryNamed, givesOctets, inputOf, longestLine, repliedBy, resultShown, unasked, worked};
+ghost use Rattle.line_replies.specs.Lines.{askedOf, cutAgain, entryNamed, givesOctets, longestLine, repliedBy, resultShown, unasked, worked};
 ghost use Rattle.line_replies.specs.Rooms.{replyCapacity, replyLength, roomWith};
 ghost use Rattle.lines.specs.Steps.{entryIn, replyTo};
 use crate::hex::Hex;
@@ -103,7 +102,7 @@ fn gives_octets(entry: Entry) -> bool
 // The reply of an entry point to an input.
 fn answer_reply(entry: Entry, settings: &[u8], input: &[u8], room: &mut [u8]) -> usize
     requires { ⌜ replyCapacity ≤ length (now room) ⌝ }
-    ensures { λ r. ⌜ StoredText (now (room .entry)) (now (room .exit)) 0 (answerShown (resultShown (givesOctets entry)) (answerOf entry (now (settings .entry)) noLimits (now (input .entry)))) r ⌝ }
+    ensures { λ r. ⌜ StoredText (now (room .entry)) (now (room .exit)) 0 (repliedBy entry (now (settings .entry)) (some (now (input .entry)))) r ⌝ }
     ensures { λ r. ⌜ r ≤ replyCapacity ⌝ }
 {
     let mut buffer = [0u8; TEXT_CAPACITY];
@@ -120,7 +119,7 @@ fn answer_reply(entry: Entry, settings: &[u8], input: &[u8], room: &mut [u8]) ->
 // The reply of an entry point to an input that is in hex where it is octets.
 fn entry_reply(entry: Entry, settings: &[u8], input: &[u8], room: &mut [u8]) -> usize
     requires { ⌜ (length (now input) ≤ longestLine) × (replyCapacity ≤ length (now room)) ⌝ }
-    ensures { λ r. ⌜ StoredText (now (room .entry)) (now (room .exit)) 0 (repliedBy entry (now (settings .entry)) (inputOf (givesOctets entry) (now (input .entry)))) r ⌝ }
+    ensures { λ r. ⌜ StoredText (now (room .entry)) (now (room .exit)) 0 (askedOf (some entry) (now (settings .entry)) (now (input .entry))) r ⌝ }
     ensures { λ r. ⌜ r ≤ replyCapacity ⌝ }
 {
     if gives_octets(entry) {

@@ -1,6 +1,8 @@
 ghost use mathlib.Core.Path.{_≡_};
 ghost use mathlib.Core.Bool.{_||_};
-ghost use Rattle.types.specs.Types.{carrying, digitsOfParts, everyYear, formOf, formOfParts, fractionDigits, hasDate, hasTime, limitedTo, listed, nameOf, partsOf, placed, restricted, someYear, unlimitedDate, unlimitedTime, wellFormed, wellParts, withHour24, withWindow};
+ghost use Rattle.types.specs.Types.{carrying, digitsOfParts, everyYear, formOf, formOfParts, fractionDigits, hasDate, hasTime, limitedTo};
+ghost use Rattle.types.specs.Types.{listed, nameOf, partsOf, placed, restricted, someYear, unlimitedDate, unlimitedTime};
+ghost use Rattle.types.specs.Types.{wellFormed, wellParts, withHour24, withWindow};
 use calendar::Year;
 use texts::ClockForm;
 use texts::DateForm;

@@ -1,5 +1,6 @@
 ghost use mathlib.Core.Path.{_≡_};
-ghost use Rattle.held_values.specs.Existence.{hoursOf, minutesOf, secondsOf, existsClock, existsFraction, existsDifference, existsZone, existsTime, existsValue};
+ghost use Rattle.held_values.specs.Existence.{hoursOf, minutesOf, secondsOf};
+ghost use Rattle.held_values.specs.Existence.{existsClock, existsFraction, existsDifference, existsZone, existsTime, existsValue};
 use calendar::date_exists;
 use texts::Clock;
 use texts::Difference;

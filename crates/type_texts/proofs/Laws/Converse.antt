@@ -262,19 +262,24 @@ pub read-stands : (limits : Limits) (l : List ℕ) (t : «Type») → typeOf lim
 unfolding typeOf
 read-stands limits l t h = date-name (eqList l (bytes "DATE")) refl h
   where
-    both-name : (b : Bool) → eqList l (bytes "DATE-TIME") ≡ b → cond b (limitedTo limits DATE-TIME) (joined limits (listsOf l)) ≡ TypeRead.«Type» t → Stands limits t l
+    both-name : (b : Bool) → eqList l (bytes "DATE-TIME") ≡ b
+        → cond b (limitedTo limits DATE-TIME) (joined limits (listsOf l)) ≡ TypeRead.«Type» t
+        → Stands limits t l
     both-name true e j = DATE-TIME-is (equal l _ e) j
     both-name false e j = settings-are (lists-read limits l t h j)
 
     time-name : (b : Bool) → eqList l (bytes "TIME-OF-DAY") ≡ b
-        → cond b (limitedTo limits TIME-OF-DAY) (cond (eqList l (bytes "DATE-TIME")) (limitedTo limits DATE-TIME) (joined limits (listsOf l))) ≡ TypeRead.«Type» t
+        → cond b (limitedTo limits TIME-OF-DAY)
+        (cond (eqList l (bytes "DATE-TIME")) (limitedTo limits DATE-TIME) (joined limits (listsOf l)))
+        ≡ TypeRead.«Type» t
         → Stands limits t l
     time-name true e j = TIME-OF-DAY-is (equal l _ e) j
     time-name false e j = both-name (eqList l (bytes "DATE-TIME")) refl j
 
     date-name : (b : Bool) → eqList l (bytes "DATE") ≡ b
         → cond b (limitedTo limits DATE)
-        (cond (eqList l (bytes "TIME-OF-DAY")) (limitedTo limits TIME-OF-DAY) (cond (eqList l (bytes "DATE-TIME")) (limitedTo limits DATE-TIME) (joined limits (listsOf l))))
+        (cond (eqList l (bytes "TIME-OF-DAY")) (limitedTo limits TIME-OF-DAY)
+        (cond (eqList l (bytes "DATE-TIME")) (limitedTo limits DATE-TIME) (joined limits (listsOf l))))
         ≡ TypeRead.«Type» t
         → Stands limits t l
     date-name true e j = DATE-is (equal l _ e) j

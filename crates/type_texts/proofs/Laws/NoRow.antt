@@ -132,14 +132,18 @@ module _ (limits : Limits) (l : List ℕ) where
       both-name true j = absurd (limited-not limits DATE-TIME j)
       both-name false j = lists-apart j
 
-      time-name : (b : Bool) → cond b (limitedTo limits TIME-OF-DAY) (cond (eqList l (bytes "DATE-TIME")) (limitedTo limits DATE-TIME) (joined limits (listsOf l))) ≡ TypeRead.NoRow
+      time-name : (b : Bool)
+          → cond b (limitedTo limits TIME-OF-DAY)
+          (cond (eqList l (bytes "DATE-TIME")) (limitedTo limits DATE-TIME) (joined limits (listsOf l)))
+          ≡ TypeRead.NoRow
           → TwoRows limits l
       time-name true j = absurd (limited-not limits TIME-OF-DAY j)
       time-name false j = both-name (eqList l (bytes "DATE-TIME")) j
 
       date-name : (b : Bool)
           → cond b (limitedTo limits DATE)
-          (cond (eqList l (bytes "TIME-OF-DAY")) (limitedTo limits TIME-OF-DAY) (cond (eqList l (bytes "DATE-TIME")) (limitedTo limits DATE-TIME) (joined limits (listsOf l))))
+          (cond (eqList l (bytes "TIME-OF-DAY")) (limitedTo limits TIME-OF-DAY)
+          (cond (eqList l (bytes "DATE-TIME")) (limitedTo limits DATE-TIME) (joined limits (listsOf l))))
           ≡ TypeRead.NoRow
           → TwoRows limits l
       date-name true j = absurd (limited-not limits DATE j)
