@@ -8,7 +8,7 @@ ghost use Rattle.octets.specs.Octets.{eqList};
 ghost use Rattle.octets.specs.Stores.{StoredText};
 ghost use Rattle.texts.specs.Texts.{readOf};
 ghost use Rattle.types.specs.declared.types.Name.{Name};
-ghost use Rattle.encodings.specs.Encodings.{ofText};
+ghost use Rattle.held_values.specs.Encodings.{ofText};
 ghost use Rattle.der_elements.specs.Elements.{tagOf};
 ghost use Rattle.der_elements.specs.Readings.{allDigits, digitsOnly, separated, readContents, readLength, readElement};
 use crate::tags::tag_length;

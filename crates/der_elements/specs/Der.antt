@@ -10,7 +10,7 @@ use Rattle.types.specs.declared.types.Name.{Name}
 use Rattle.types.specs.declared.types.«Type».{«Type» as Ty}
 use Rattle.kinds.specs.Kinds.{Kind}
 use Rattle.kinds.specs.Coding.{encoded, decoded}
-use Rattle.encodings.specs.Encodings.{Encoding, encodedBy}
+use Rattle.held_values.specs.Encodings.{Encoding, encodedBy}
 use Rattle.der_elements.specs.Elements.{elementOf}
 use Rattle.der_elements.specs.Readings.{readElement}
 

@@ -11,7 +11,7 @@ use Rattle.texts.specs.declared.forms.Form.{Form}
 use Rattle.texts.specs.declared.values.Value.{Value}
 use Rattle.types.specs.declared.types.Name.{Name}
 use mathlib.Core.Option.{Option, none}
-use Rattle.encodings.specs.Encodings.{ofText}
+use Rattle.held_values.specs.Encodings.{ofText}
 use Rattle.der_elements.specs.Elements.{tagOf}
 
 -- Whether all octets are digits.

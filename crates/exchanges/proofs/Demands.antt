@@ -30,8 +30,8 @@ use Rattle.unpacking.specs.Unpacked.{valueIn, valueNumber}
 use Rattle.kinds.specs.Kinds.{holds}
 use Rattle.kinds.specs.Lawful.{Holds}
 use Rattle.kinds.proofs.Laws.Coding as Coding
-use Rattle.encodings.specs.Encodings.{Encoding, encodedBy, ofText}
-use Rattle.encodings.proofs.Laws.Encodings.{admissionAnswer, answerWith, encoded-admitted, judged-as, noted}
+use Rattle.held_values.specs.Encodings.{Encoding, encodedBy, ofText}
+use Rattle.held_values.proofs.Laws.Encodings.{admissionAnswer, answerWith, encoded-admitted, judged-as, noted}
 use Rattle.per.specs.Per.{countOf, encodingOf, inPer, per, perDecoded, perEncoded}
 use Rattle.per.proofs.Laws.Per.{per-lawful}
 use Rattle.der_elements.specs.Der.{der, derDecoded, derEncoded, inDer}

@@ -1,5 +1,5 @@
-// Values under types as definitions with their laws: which values exist, which a type holds, and what a text gives. The
-// crate `values` has the functions.
+// Values under types as definitions with their laws: which values exist, which a type holds, what a text gives, and what
+// every encoding of dates and times shares. The crate `values` has the functions.
 pub mod admission;
 
 pub use admission::Admission;

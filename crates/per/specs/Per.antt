@@ -16,7 +16,7 @@ use Rattle.rows.specs.declared.YearRow.{YearRow}
 use mathlib.Core.Option.{Option, some, none}
 use Rattle.kinds.specs.Kinds.{Kind}
 use Rattle.kinds.specs.Coding.{encoded, decoded}
-use Rattle.encodings.specs.Encodings.{Encoding, encodedBy}
+use Rattle.held_values.specs.Encodings.{Encoding, encodedBy}
 
 -- What bits give, whatever is left of them.
 abbrev pub ofBits : Found Bool Value → Option Value

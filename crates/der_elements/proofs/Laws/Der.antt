@@ -38,8 +38,8 @@ use mathlib.Core.Option.{some}
 use Rattle.kinds.specs.Coding.{judgedAs}
 use Rattle.kinds.specs.Lawful.{Accepted, Holds, Lawful}
 use Rattle.kinds.proofs.Laws.Coding as Coding
-use Rattle.encodings.specs.Encodings.{ofText}
-use Rattle.encodings.proofs.Laws.Encodings.{admissionAnswer, answerWith, decoded-short, encoded-admitted, judged-as, text-read}
+use Rattle.held_values.specs.Encodings.{ofText}
+use Rattle.held_values.proofs.Laws.Encodings.{admissionAnswer, answerWith, decoded-short, encoded-admitted, judged-as, text-read}
 use Rattle.der_elements.specs.Der.{der, derDecoded, derEncoded, inDer, noBits}
 use Rattle.der_elements.specs.Elements.{contentsOf, element, elementOf, omits, tagOf, without}
 use Rattle.der_elements.specs.Readings.{allDigits, digitsOnly, readContents, readElement}

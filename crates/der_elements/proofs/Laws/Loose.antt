@@ -22,7 +22,7 @@ use Rattle.texts.specs.declared.values.Value.{Value}
 use Rattle.texts.proofs.Laws.Digits.{is-digit-back}
 use Rattle.texts.proofs.Laws.Texts.{render-read}
 use Rattle.types.specs.declared.types.Name.{Name}
-use Rattle.encodings.specs.Encodings.{ofText}
+use Rattle.held_values.specs.Encodings.{ofText}
 use Rattle.der_elements.specs.Elements.{contentsOf, element, omits, tagOf, without}
 use Rattle.der_elements.specs.Loose.{ReadableElement, StandsFor}
 use Rattle.der_elements.specs.Readings.{allDigits, dated, digitsOnly, readContents, readElement, readLength, separated, timed}

@@ -27,7 +27,7 @@ use mathlib.Core.Option.{Option, some, none}
 use Rattle.kinds.specs.Coding.{judgedAs}
 use Rattle.kinds.specs.Lawful.{Accepted, Holds, Lawful}
 use Rattle.kinds.proofs.Laws.Coding as Coding
-use Rattle.encodings.proofs.Laws.Encodings.{admissionAnswer, answerWith, decoded-short, encoded-admitted, held-by, judged-as, text-read}
+use Rattle.held_values.proofs.Laws.Encodings.{admissionAnswer, answerWith, decoded-short, encoded-admitted, held-by, judged-as, text-read}
 use Rattle.per.specs.Per.{ofBits, encodingOf, inPer, per, perEncoded, perDecoded}
 use Rattle.per.proofs.Laws.Carried.{held-carried}
 use Rattle.per.proofs.Laws.Packed.{encoding-short}

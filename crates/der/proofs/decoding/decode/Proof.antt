@@ -3,7 +3,7 @@ use mathlib.Core.Path.{ap, refl, sym, _∙_}
 use borrow.Author.Tests.{not-false, not-true}
 use Rattle.answers.specs.Outcomes.{outcomeOf, roomOf}
 use Rattle.kinds.specs.Coding.{decoded, judgedOctets}
-use Rattle.encodings.specs.Encodings.{ofText}
+use Rattle.held_values.specs.Encodings.{ofText}
 use Rattle.held_values.proofs.Laws.Existing.{judged-held}
 use Rattle.held_values.proofs.Laws.Holding.{held}
 use Rattle.der_elements.proofs.Laws.Der.{der-judged-as}

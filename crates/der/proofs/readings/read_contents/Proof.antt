@@ -1,6 +1,6 @@
 -- `readings::read_contents` meets its contract, name by name.
 use mathlib.Core.Path.{ap}
-use Rattle.encodings.specs.Encodings.{ofText}
+use Rattle.held_values.specs.Encodings.{ofText}
 use borrow.Author.Needs.{needs}
 use Rattle.der.proofs.readings.read_contents.Statement.{statement}
 use Rattle.der.proofs.readings.read_contents.Tie as tie

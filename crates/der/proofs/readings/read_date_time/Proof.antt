@@ -8,7 +8,7 @@ use borrow.Author.Tests.{not-false, not-true}
 use Rattle.der_elements.specs.Readings.{digitsOnly}
 use Rattle.der_elements.proofs.Laws.Readings.{date-size, date-time-stored, digits-count, time-digits}
 use Rattle.texts.specs.Texts.{readOf}
-use Rattle.encodings.specs.Encodings.{ofText}
+use Rattle.held_values.specs.Encodings.{ofText}
 use borrow.Author.Needs.{needs}
 use Rattle.der.proofs.readings.read_date_time.Statement.{statement}
 use Rattle.der.proofs.readings.read_date_time.Tie as tie

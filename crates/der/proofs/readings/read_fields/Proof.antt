@@ -9,7 +9,7 @@ use borrow.Author.Tests.{not-false, not-true}
 use Rattle.der_elements.specs.Readings.{digitsOnly, separated}
 use Rattle.der_elements.proofs.Laws.Readings.{digits-count, front-stored, separated-size}
 use Rattle.texts.specs.Texts.{readOf}
-use Rattle.encodings.specs.Encodings.{ofText}
+use Rattle.held_values.specs.Encodings.{ofText}
 use borrow.Author.Needs.{needs}
 use Rattle.der.proofs.readings.read_fields.Statement.{statement}
 use Rattle.der.proofs.readings.read_fields.Tie as tie

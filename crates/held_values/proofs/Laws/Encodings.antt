@@ -21,20 +21,20 @@ use Rattle.texts.specs.declared.values.Value.{Value}
 use Rattle.types.specs.Types.{formOf, wellFormed}
 use Rattle.types.specs.declared.types.«Type».{«Type» as Ty}
 use Rattle.printing.proofs.Laws.Canonical.{text-length}
 use Rattle.held_values.specs.Admission.{admitted, givenAs, judged, judgedRead, textNumber}
 use Rattle.held_values.specs.Existence.{existsValue}
 use Rattle.held_values.specs.Forms.{sameForm}
 use Rattle.held_values.specs.Holding.{holdsOf, inType}
 use Rattle.held_values.specs.declared.admission.Admission.{Admission}
 use Rattle.held_values.specs.declared.admission.Judgement.{Judgement}
 use Rattle.held_values.proofs.Laws.Existing.{exists-digits, held-fits, held-read}
 use Rattle.held_values.proofs.Laws.Holding.{form-same, held, holds-both, in-type, same-form}
 use mathlib.Core.Option.{none, some}
 use Rattle.kinds.specs.Coding.{encoded, decoded, judgedText, judgedAs}
 use Rattle.kinds.specs.Kinds.{holds}
 use Rattle.kinds.specs.Lawful.{Holds, Notation}
 use Rattle.kinds.proofs.Laws.Coding as Coding
-use Rattle.encodings.specs.Encodings.{Encoding, ofText, encodedBy}
+use Rattle.held_values.specs.Encodings.{Encoding, ofText, encodedBy}
 
 -- What an admission answers: the encoding of the value, or the refusal.
 abbrev pub admissionAnswer : {R : Type 0} → Encoding R → R → Admission → Answer

@@ -1,2 +1,0 @@
--- The laws of every encoding of dates and times.
-pub mod Encodings

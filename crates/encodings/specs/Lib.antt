@@ -1,2 +1,0 @@
--- What a reader must believe of every encoding of dates and times.
-pub mod Encodings

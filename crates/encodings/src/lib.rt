@@ -1,1 +1,0 @@
-// What every encoding of dates and times shares, as definitions with their laws.
