@@ -1,4 +1,5 @@
-/* Codes each text given under a type: its octets in PER and in DER, and the texts that these octets give again. */
+/* Codes each text given under a type: its octets in PER and in DER, and the texts that these octets give again. Without any
+ * words it codes a duration, whose canonical text is another: P1D. */
 #include <inttypes.h>
 #include <stdio.h>
 #include <string.h>
@@ -47,6 +48,8 @@ static void code(const char *type, const char *text)
 
 int main(int count, char **words)
 {
+    if (count < 2)
+        code("DURATION", "P0Y0M1D");
     for (int i = 2; i < count; i++)
         code(words[1], words[i]);
     return 0;

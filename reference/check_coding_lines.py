@@ -1,6 +1,6 @@
 """Checks coding_lines.py against hand-written replies, and that its lines ask for all."""
 
-from checks import agree
+from checks import INTERVAL_D, agree
 from coding_lines import all_lines, reply
 
 # line, reply
@@ -27,6 +27,23 @@ LINES = (
     (b"u8*;TIME-OF-DAY;1F2006323430303030", b"5"),
     (b"u8*;DATE;1F1F083230303630363133", b"1"),
     (b"u1*;TIME-OF-DAY;1F2006323430303030", b"1"),
+    # durations: 8 bits for optionality, 6 for a year and 5 for a month; "contents without `P`"
+    (b"e0*;DURATION;P1Y6M", b"0 19 C004C0"),
+    (b"d0*;DURATION;C004C0", b"0 19 P1Y6M"),
+    (b"e0*;Basic=Interval Interval-type=D;P0Y0M1D", b"0 14 1004"),
+    (b"t0*;DURATION;P1Y6M", b"0 0 1F22043159364D"),
+    (b"u0*;DURATION;1F22043159364D", b"0 0 P1Y6M"),
+    (b"t0*;Basic=Interval Interval-type=D;P0Y0M1D", b"0 0 0E03503144"),
+    (b"e0c;DURATION;P1Y6M", b"7"),
+    (b"e0d;DURATION;P1Y6M", b"0 19 C004C0"),
+    (b"u0e;DURATION;1F22043159364D", b"7"),
+    (b"u0f;DURATION;1F22043159364D", b"0 0 P1Y6M"),
+    (b"d0*;DURATION;C000C0", b"6"),
+    (b"d0a;DURATION;C000C0", b"6"),
+    (b"d0*;DURATION;C0", b"3"),
+    (b"e1*;DURATION;P1Y6M", b"1"),
+    (b"d8*;DURATION;C004C0", b"1"),
+    (b"u9a;Basic=Interval Interval-type=D;0E03503144", b"1"),
     # no questions
     (b"u0*;DATE;1F1F08323030363036313", b"?"),
     (b"u0*;DATE;2006-06-13", b"?"),
@@ -46,6 +63,15 @@ FIRST_WORDS = {
 }
 
 
+# "no such date, time or difference" and "exists, but not in the type" hold of no duration; 2 needs two lists
+FIRST_WORDS_OF_DURATIONS = {
+    b"e": {b"0", b"1", b"3", b"7"},
+    b"t": {b"0", b"1", b"3", b"7"},
+    b"d": {b"0", b"1", b"3", b"6", b"7"},
+    b"u": {b"0", b"1", b"3", b"6", b"7"},
+}
+
+
 def check_lines():
     """That the lines ask for each number that a work can give."""
     lines = all_lines()
@@ -54,7 +80,10 @@ def check_lines():
         if each[:1] in found:
             found[each[:1]].add(reply(each).split(b" ")[0])
     agree(found, FIRST_WORDS, "replies")
-    agree(40000 < len(lines) < 75000, True, "number of lines")
+    agree(40000 < len(lines) < 80000, True, "number of lines")
+    durations = [each for each in lines if each.split(b";")[1:2] in ([b"DURATION"], [INTERVAL_D])]
+    found = {work: {reply(each).split(b" ")[0] for each in durations if each[:1] == work} for work in FIRST_WORDS}
+    agree(found, FIRST_WORDS_OF_DURATIONS, "replies on durations")
 
 
 def main():

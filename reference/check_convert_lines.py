@@ -1,6 +1,6 @@
 """Checks convert_lines.py against document 01's example and hand-written replies, and that its lines ask for all."""
 
-from checks import agree
+from checks import INTERVAL_D, agree
 from convert_lines import all_lines, replies, reply
 
 # all that is read, all that is written
@@ -63,6 +63,49 @@ LINES = (
     # what PER writes is no DER, and the other way round
     (b"under;DATE;0558", b"3"),
     (b"unper;DATE;1F1F083230303630363133", b"3"),
+    # durations: "My mail asks for `P1Y6M` or `PT0.5S`."
+    (b"per;DURATION;P1Y6M", b"0 C004C0"),
+    (b"per;DURATION;PT0.5S", b"0 03000020"),
+    (b"unper;DURATION;c004C0", b"0 P1Y6M"),
+    (b"unper;Basic=Interval Interval-type=D;03000020", b"0 PT0.5S"),
+    (b"der;DURATION;P1Y6M", b"0 1F22043159364D"),
+    (b"der;DURATION;PT0,5S", b"0 1F220554302E3553"),
+    (b"der;Basic=Interval Interval-type=D;PT0.5S", b"0 0E065054302E3553"),
+    (b"under;DURATION;1F22043159364D", b"0 P1Y6M"),
+    (b"under;Interval-type=D Basic=Interval;0E05503159304D", b"0 P1Y0M"),
+    # "`P0Y0M1D` becomes `P1D`, `P0Y0M` becomes `P0M`, `P1Y0M` stays"
+    (b"der;Basic=Interval Interval-type=D;P0Y0M1D", b"0 0E03503144"),
+    (b"der;Basic=Interval Interval-type=D;P0Y0M", b"0 0E0350304D"),
+    (b"der;Basic=Interval Interval-type=D;P1Y0M", b"0 0E05503159304D"),
+    (b"per;DURATION;P0Y0M1D", b"0 1004"),
+    (b"per;DURATION;P0Y0M", b"0 4000"),
+    (b"per;DURATION;P1Y0M", b"0 C00400"),
+    # 1 and 2
+    (b"per;Basic=Interval;P1Y6M", b"1"),
+    (b"per;Basic=Interval Interval-type=SE;P1Y6M", b"1"),
+    (b"under;DURATION|DURATION;1F22043159364D", b"1"),
+    (b"der;Basic=Interval Interval-type=D|Basic=Date Date=Y Year=Basic;P1Y6M", b"2"),
+    # 3
+    (b"per;DURATION;P01Y", b"3"),
+    (b"per;DURATION;P1.5Y6M", b"3"),
+    (b"per;DURATION;P1000000000Y", b"3"),
+    (b"der;DURATION;P1Y1W", b"3"),
+    (b"der;DURATION;PT", b"3"),
+    (b"der;DURATION;2006-06-13", b"3"),
+    (b"der;DATE;P1Y6M", b"3"),
+    (b"unper;DURATION;00", b"3"),
+    (b"unper;DURATION;A00404", b"3"),
+    (b"under;DURATION;1F2200", b"3"),
+    (b"under;DURATION;1F2205503159364D", b"3"),
+    (b"under;DURATION;0E05503159364D", b"3"),
+    (b"under;Basic=Interval Interval-type=D;1F22043159364D", b"3"),
+    # 6: P0Y6M, P1Y after a 1 bit, a filling, an octet left over; 0Y6M, a comma
+    (b"unper;DURATION;C000C0", b"6"),
+    (b"unper;DURATION;80808080", b"6"),
+    (b"unper;DURATION;8005", b"6"),
+    (b"unper;DURATION;800400", b"6"),
+    (b"under;DURATION;1F22043059364D", b"6"),
+    (b"under;DURATION;1F220554302C3553", b"6"),
     # "fewer than two semicolons"
     (b"per", b"?"),
     (b"per;DATE", b"?"),
@@ -116,6 +159,25 @@ FIRST_WORDS = {
 }
 
 
+# "no such date, time or difference" and "exists, but not in the type" hold of no duration; 2 needs two lists
+FIRST_WORDS_OF_DURATIONS = {
+    b"per": {b"0", b"3"},
+    b"der": {b"0", b"3"},
+    b"unper": {b"0", b"3", b"6"},
+    b"under": {b"0", b"3", b"6"},
+}
+
+
+def check_durations(lines):
+    """That the lines on durations ask for each number that a work can give there."""
+    found = {work: set() for work in FIRST_WORDS_OF_DURATIONS}
+    for each in lines:
+        work, _, rest = each.partition(b";")
+        if work in found and rest.startswith((b"DURATION;", INTERVAL_D + b";")):
+            found[work].add(reply(each).split(b" ")[0])
+    agree(found, FIRST_WORDS_OF_DURATIONS, "replies on durations")
+
+
 def check_lines():
     """That the lines ask for each number that a work can give, and have many lengths."""
     lines = all_lines()
@@ -126,10 +188,11 @@ def check_lines():
             found[work].add(reply(each).split(b" ")[0])
     agree(found, FIRST_WORDS, "replies")
     agree(len(set(lines)) >= 20000 and len(lines) < 80000, True, "number of lines")
-    agree(sum(map(len, lines)) < 5000000, True, "number of octets")
+    agree(sum(map(len, lines)) < 6000000, True, "number of octets")
     agree({0, 1, 1023, 1024, 1025, 5000, 70000, 200000, 200001} <= set(map(len, lines)), True, "lengths")
     agree(lines[:3], WHOLE[0][0].splitlines(), "first lines")
     agree(reply(lines[-1])[:2], b"0 ", "last line")
+    check_durations(lines)
 
 
 def main():

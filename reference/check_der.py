@@ -1,9 +1,11 @@
-"""Checks der.py against hand-written cases from document 01's sentences, and against the vectors of an outside tool."""
+"""Checks der.py against hand-written cases from document 01's sentences and request #101, and against the vectors of an
+outside tool."""
 
 import itertools
 
 import der
 from checks import BOTH_LIMITS, EMPTY_WINDOW, NO_HOUR_24, ROOM, YEARS_2000_TO_2010, agree, check_refused, check_value
+from checks import INTERVAL_D, LONGEST_DURATION
 from checks import H_L, HF1_L, HM_LD, HM_Z, HMF1_LD, HMS_L, HMSF3_L, YMD_T_HMS_L, YW_T_HMF1_LD
 from checks import Y_BASIC, Y_L5, Y_NEGATIVE, Y_PROLEPTIC, YD_BASIC, YM_BASIC, YMD_BASIC, YMD_PROLEPTIC, YW_BASIC
 from checks import YWD_BASIC
@@ -60,6 +62,23 @@ VALUES = (
     (BOTH_LIMITS, b"DATE-TIME", b"2006-06-13T15:27:46", "1F 21 0E 32 30 30 36 30 36 31 33 31 35 32 37 34 36"),
     (YEARS_2000_TO_2010, YMD_BASIC, b"2006-06-13", "0E 0A 32 30 30 36 2D 30 36 2D 31 33"),
     (NO_HOUR_24, HMS_L, b"15:27:46", "0E 08 31 35 3A 32 37 3A 34 36"),
+    # "the name DURATION, DER tag 1F 22, contents without `P`"; a settings list has tag 0E and the whole canonical text
+    (NO_LIMITS, b"DURATION", b"P1Y6M", "1F 22 04 31 59 36 4D"),
+    (NO_LIMITS, INTERVAL_D, b"P1Y6M", "0E 05 50 31 59 36 4D"),
+    (NO_LIMITS, b"Interval-type=D Basic=Interval", b"P1Y6M", "0E 05 50 31 59 36 4D"),
+    (NO_LIMITS, b"DURATION", b"PT0.5S", "1F 22 05 54 30 2E 35 53"),
+    (NO_LIMITS, INTERVAL_D, b"PT0.5S", "0E 06 50 54 30 2E 35 53"),
+    (NO_LIMITS, b"DURATION", b"P5W", "1F 22 02 35 57"),
+    (NO_LIMITS, INTERVAL_D, b"P5W", "0E 03 50 35 57"),
+    # "`P0Y0M1D` becomes `P1D`, `P0Y0M` becomes `P0M`, `P1Y0M` stays"; "full stop for comma"
+    (NO_LIMITS, b"DURATION", b"P0Y0M1D", "1F 22 02 31 44"),
+    (NO_LIMITS, INTERVAL_D, b"P0Y0M1D", "0E 03 50 31 44"),
+    (NO_LIMITS, b"DURATION", b"P0Y0M", "1F 22 02 30 4D"),
+    (NO_LIMITS, INTERVAL_D, b"P0Y0M", "0E 03 50 30 4D"),
+    (NO_LIMITS, b"DURATION", b"P1Y0M", "1F 22 04 31 59 30 4D"),
+    (NO_LIMITS, INTERVAL_D, b"P1Y0M", "0E 05 50 31 59 30 4D"),
+    (NO_LIMITS, b"DURATION", b"P0YT0M0,50S", "1F 22 06 54 30 2E 35 30 53"),
+    (NO_LIMITS, INTERVAL_D, b"P0YT0M0,50S", "0E 07 50 54 30 2E 35 30 53"),
 )
 
 # limits, type, text, room, number
@@ -100,6 +119,15 @@ REFUSED_TEXTS = (
     (NO_LIMITS, Y_BASIC + b"|" + Y_L5, b"", 0, 2),
     (NO_LIMITS, b"DATE", b"", 0, 3),
     (NO_LIMITS, b"DATE", b"1581-12-31", 0, 5),
+    # durations: what DER writes is no text
+    (NO_HOUR_24, b"DURATION", b"P1Y6M", ROOM, 1),
+    (YEARS_2000_TO_2010, INTERVAL_D, b"P1Y6M", 0, 1),
+    (NO_LIMITS, INTERVAL_D + b"|" + HMS_L, b"P1Y6M", 0, 2),
+    (NO_LIMITS, b"DURATION", b"1Y6M", ROOM, 3),
+    (NO_LIMITS, b"DURATION", b"\x1F\x22\x041Y6M", ROOM, 3),
+    (NO_LIMITS, b"DURATION", b"P01Y", 0, 3),
+    (NO_LIMITS, b"DURATION", b"P1Y6M", 6, 7),
+    (NO_LIMITS, INTERVAL_D, b"P1Y6M", 6, 7),
 )
 
 # limits, type, octets, room, number
@@ -298,7 +326,74 @@ REFUSED_OCTETS = (
     (NO_LIMITS, b"DATE", b"\x1F\x1F\x0815811231", 0, 5),
     (NO_LIMITS, b"DATE", b"\x1F\x1F\x0820060613\x00", 0, 6),
     (NO_LIMITS, HMSF3_L, b"\x0E\x0C15:27:46,500", 0, 6),
+    # durations: 1 and 2 before all others
+    (NO_HOUR_24, b"DURATION", b"\x1F\x22\x041Y6M", ROOM, 1),
+    (YEARS_2000_TO_2010, INTERVAL_D, b"\x0E\x05P1Y6M\x00", 0, 1),
+    (NO_LIMITS, INTERVAL_D + b"|" + Y_BASIC, b"\x0E\x05P1Y6M", ROOM, 2),
+    # "tag wrong": those of the name and of the list exchanged, of a date-time, and none
+    (NO_LIMITS, b"DURATION", b"\x0E\x041Y6M", ROOM, 3),
+    (NO_LIMITS, b"DURATION", b"\x0E\x05P1Y6M", ROOM, 3),
+    (NO_LIMITS, INTERVAL_D, b"\x1F\x22\x041Y6M", ROOM, 3),
+    (NO_LIMITS, INTERVAL_D, b"\x1F\x22\x05P1Y6M", ROOM, 3),
+    (NO_LIMITS, b"DURATION", b"\x1F\x21\x041Y6M", ROOM, 3),
+    (NO_LIMITS, b"DURATION", b"\x3F\x22\x041Y6M", ROOM, 3),
+    (NO_LIMITS, b"DURATION", b"1Y6M", ROOM, 3),
+    (NO_LIMITS, b"DURATION", b"", ROOM, 3),
+    (NO_LIMITS, b"DURATION", b"\x1F", ROOM, 3),
+    # "the DER length above 127, missing, or above the octets that follow"
+    (NO_LIMITS, b"DURATION", b"\x1F\x22", ROOM, 3),
+    (NO_LIMITS, b"DURATION", b"\x1F\x22\x051Y6M", ROOM, 3),
+    (NO_LIMITS, b"DURATION", b"\x1F\x22\x81\x041Y6M", ROOM, 3),
+    (NO_LIMITS, INTERVAL_D, b"\x0E\x80P1Y6M\x00\x00", ROOM, 3),
+    # contents without `P` under the name, and with it under the list
+    (NO_LIMITS, b"DURATION", b"\x1F\x22\x05P1Y6M", ROOM, 3),
+    (NO_LIMITS, b"DURATION", b"\x1F\x22\x051Y6MP", ROOM, 3),
+    (NO_LIMITS, INTERVAL_D, b"\x0E\x041Y6M", ROOM, 3),
+    (NO_LIMITS, INTERVAL_D, b"\x0E\x06PP1Y6M", ROOM, 3),
+    # "no component at all", also where octets are left over
+    (NO_LIMITS, b"DURATION", b"\x1F\x22\x00", ROOM, 3),
+    (NO_LIMITS, b"DURATION", b"\x1F\x22\x001Y6M", ROOM, 3),
+    (NO_LIMITS, b"DURATION", b"\x1F\x22\x01T", ROOM, 3),
+    (NO_LIMITS, INTERVAL_D, b"\x0E\x00", ROOM, 3),
+    (NO_LIMITS, INTERVAL_D, b"\x0E\x01P", ROOM, 3),
+    (NO_LIMITS, INTERVAL_D, b"\x0E\x02PT", ROOM, 3),
+    # "a needless leading zero, an earlier fraction, a number that is negative or of more than nine digits", "or weeks
+    # beside another one, decoded too"
+    (NO_LIMITS, b"DURATION", b"\x1F\x22\x0301Y", ROOM, 3),
+    (NO_LIMITS, b"DURATION", b"\x1F\x22\x061.5Y6M", ROOM, 3),
+    (NO_LIMITS, b"DURATION", b"\x1F\x22\x03-1Y", ROOM, 3),
+    (NO_LIMITS, b"DURATION", b"\x1F\x22\x0B1000000000Y", ROOM, 3),
+    (NO_LIMITS, b"DURATION", b"\x1F\x22\x041Y1W", ROOM, 3),
+    (NO_LIMITS, INTERVAL_D, b"\x0E\x05P0Y1W", ROOM, 3),
+    (NO_LIMITS, INTERVAL_D, b"\x0E\x05P1W0D", ROOM, 3),
+    # contents of other types
+    (NO_LIMITS, b"DURATION", b"\x1F\x22\x0820060613", ROOM, 3),
+    (NO_LIMITS, INTERVAL_D, b"\x0E\x0A2006-06-13", ROOM, 3),
+    (NO_LIMITS, YMD_BASIC, b"\x0E\x05P1Y6M", ROOM, 3),
+    (NO_LIMITS, b"DATE", b"\x1F\x22\x041Y6M", ROOM, 3),
+    # "a zero component that should be gone meets 6 in decoding"; a comma does too
+    (NO_LIMITS, b"DURATION", b"\x1F\x22\x060Y0M1D", ROOM, 6),
+    (NO_LIMITS, b"DURATION", b"\x1F\x22\x040Y0M", ROOM, 6),
+    (NO_LIMITS, INTERVAL_D, b"\x0E\x07P0Y0M1D", ROOM, 6),
+    (NO_LIMITS, INTERVAL_D, b"\x0E\x08PT0M0.5S", ROOM, 6),
+    (NO_LIMITS, b"DURATION", b"\x1F\x22\x05T0,5S", ROOM, 6),
+    (NO_LIMITS, INTERVAL_D, b"\x0E\x06PT0,5S", ROOM, 6),
+    # "octets left over"
+    (NO_LIMITS, b"DURATION", b"\x1F\x22\x041Y6M\x00", ROOM, 6),
+    (NO_LIMITS, b"DURATION", b"\x1F\x22\x021Y6M", ROOM, 6),
+    (NO_LIMITS, INTERVAL_D, b"\x0E\x05P1Y6MP", ROOM, 6),
+    # 3 with 6, 6 with 7, and 7: the text with its P
+    (NO_LIMITS, b"DURATION", b"\x1F\x22\x060Y1,5W", ROOM, 3),
+    (NO_LIMITS, b"DURATION", b"\x1F\x22\x040Y1,", ROOM, 3),
+    (NO_LIMITS, INTERVAL_D, b"\x0E\x06P0Y1Y1\x00", ROOM, 3),
+    (NO_LIMITS, b"DURATION", b"\x1F\x22\x040Y0M", 0, 6),
+    (NO_LIMITS, INTERVAL_D, b"\x0E\x05P1Y6M\x00", 0, 6),
+    (NO_LIMITS, b"DURATION", b"\x1F\x22\x041Y6M", 4, 7),
+    (NO_LIMITS, INTERVAL_D, b"\x0E\x05P1Y6M", 4, 7),
 )
+
+# texts of durations whose elements are changed, under the name and under its settings
+DURATIONS = (b"P1Y6M", b"PT0.5S", b"P5W", b"P10DT20M0S")
 
 # a year of each setting with the most octets
 LONGEST_YEARS = {b"Basic": b"2006", b"Proleptic": b"1066", b"Negative": b"-0044", b"L5": b"-12006"}
@@ -328,6 +423,9 @@ def check_lengths():
         check_value(der, NO_LIMITS, type_text, text, b"\x0E" + bytes([len(text)]) + text, 0)
         longest = max(longest, len(text))
     agree(longest, LONGEST_CONTENTS, "longest contents")
+    text = LONGEST_DURATION
+    check_value(der, NO_LIMITS, INTERVAL_D, text, b"\x0E\x48" + text, 0)
+    check_value(der, NO_LIMITS, b"DURATION", text, b"\x1F\x22\x47" + text[1:], 0)
 
 
 def check_vectors():
@@ -335,7 +433,7 @@ def check_vectors():
     vectors = list(der_vectors())
     lengths = {octets[1] for type_text, _, octets in vectors if type_text not in NAMES}
     agree(len(vectors) >= 600 and LONGEST_CONTENTS in lengths, True, "vectors are there")
-    agree({type_text for type_text, _, _ in vectors} >= set(NAMES), True, "names are there")
+    agree({type_text for type_text, _, _ in vectors} >= {*NAMES, b"DURATION", INTERVAL_D}, True, "names are there")
     for type_text, text, octets in vectors:
         check_value(der, NO_LIMITS, type_text, text, octets, 0)
 
@@ -387,6 +485,8 @@ def main():
     check_lengths()
     check_vectors()
     for type_text, text in itertools.islice(sample(), 0, None, 2):
+        check_changes(type_text, text)
+    for type_text, text in itertools.product((b"DURATION", INTERVAL_D), DURATIONS):
         check_changes(type_text, text)
 
 

@@ -1,7 +1,12 @@
-"""Checks per.py against "Checked values" and hand-written cases from document 01's sentences."""
+"""Checks per.py against "Checked values" and hand-written cases from document 01's sentences and request #101, and the
+reading of durations against the writing of all texts."""
+
+import itertools
 
 import per
-from checks import NO_HOUR_24, ROOM, YEARS_2000_TO_2010, check_refused, check_value
+from bits import fill
+from checks import BOTH_LIMITS, INTERVAL_D, LONGEST_DURATION, NO_HOUR_24, ROOM, YEARS_2000_TO_2010, agree
+from checks import check_refused, check_value
 from checks import H_L, H_LD, H_Z, HF1_L, HF2_L, HF2_LD, HF4_L, HMSF3_L, HMSF4_L
 from checks import Y_BASIC, Y_L5, Y_NEGATIVE, Y_PROLEPTIC, YD_BASIC, YMD_PROLEPTIC, YW_BASIC, YWD_BASIC
 from settings import NO_LIMITS
@@ -85,6 +90,13 @@ REFUSED_TEXTS = (
     (NO_LIMITS, b"DATE", b"", 0, 3),
     (NO_LIMITS, b"DATE", b"2006-02-29", 0, 4),
     (NO_LIMITS, b"DATE", b"1581-12-31", 0, 5),
+    # durations: 1, 2, 3 and 7
+    (NO_HOUR_24, b"DURATION", b"P1Y6M", ROOM, 1),
+    (YEARS_2000_TO_2010, INTERVAL_D, b"P1Y6M", ROOM, 1),
+    (NO_LIMITS, INTERVAL_D + b"|" + Y_BASIC, b"P1Y6M", ROOM, 2),
+    (NO_LIMITS, b"DURATION", b"P1Y6", ROOM, 3),
+    (NO_LIMITS, b"DURATION", b"P01Y", 0, 3),
+    (NO_LIMITS, b"DURATION", b"P1Y6M", 2, 7),
 )
 
 # limits, type, octets, room, number
@@ -148,6 +160,184 @@ REFUSED_OCTETS = (
     (NO_LIMITS, b"DATE", "05 59", 0, 6),
 )
 
+# text, octets, bit count; both ways, under the name DURATION and under its settings. By 28 bis.6.1 eight bits come
+# first, for years, months, weeks, days, hours, minutes, seconds and fractional-part
+DURATIONS = (
+    # 1100 0000, years 0 00001, months 0 0110
+    (b"P1Y6M", "C0 04 C0", 19),
+    # 0000 0011, seconds 0 000000, number-of-digits 1 as 0 00, fractional-value 5 as 0 0000000100
+    (b"PT0.5S", "03 00 00 20", 29),
+    # "`P0Y0M1D` becomes `P1D`": 0001 0000, days 0 00001
+    (b"P1D", "10 04", 14),
+    (b"P0Y0M1D", "10 04", 14),
+    # "`P0Y0M` becomes `P0M`": 0100 0000, months 0 0000
+    (b"P0M", "40 00", 13),
+    (b"P0Y0M", "40 00", 13),
+    # "`P1Y0M` stays": 1100 0000, years 0 00001, months 0 0000
+    (b"P1Y0M", "C0 04 00", 19),
+    # the highest number of each root, and one more: a 1 bit, length 01, and 32, 16 or 64
+    (b"P31Y", "80 7C", 14),
+    (b"P32Y", "80 80 90 00", 25),
+    (b"P15M", "40 78", 13),
+    (b"P16M", "40 80 88 00", 25),
+    (b"P63W", "20 7E", 15),
+    (b"P64W", "20 80 A0 00", 25),
+    (b"P31D", "10 7C", 14),
+    (b"P32D", "10 80 90 00", 25),
+    (b"PT31H", "08 7C", 14),
+    (b"PT32H", "08 80 90 00", 25),
+    (b"PT63M", "04 7E", 15),
+    (b"PT64M", "04 80 A0 00", 25),
+    (b"PT63S", "02 7E", 15),
+    (b"PT64S", "02 80 A0 00", 25),
+    # a 1 bit, length 01 and 7F; length 02 and 00 80; length 04 and 3B 9A C9 FF
+    (b"P127D", "10 80 BF 80", 25),
+    (b"P128D", "10 81 00 40 00", 33),
+    (b"P999999999D", "10 82 1D CD 64 FF 80", 49),
+    # seconds 0 000000; number-of-digits 3 as 0 10, fractional-value 999 as 0 1111100110
+    (b"PT0.999S", "03 00 9F 30", 29),
+    # number-of-digits 4 as 1, length 01 and 04; fractional-value 999 as before, 1000 as 1, length 02 and 03 E8
+    (b"PT0.0999S", "03 01 01 04 7C C0", 43),
+    (b"PT0.1000S", "03 01 01 04 81 01 F4 00", 57),
+    # a fractional-value 0 is outside the root: number-of-digits 0 00, then 1, length 01 and 00
+    (b"PT0.0S", "03 00 20 20 00", 35),
+    (b"PT0,0S", "03 00 20 20 00", 35),
+    # "Decoders can recover the original fractional part from these encodings, including any trailing zeros"
+    (b"PT0.50S", "03 00 41 88", 29),
+    # six numbers of 41 bits, number-of-digits of 17, fractional-value of 41
+    (LONGEST_DURATION,
+     "DF 82 1D CD 64 FF C1 0E E6 B2 7F E0 87 73 59 3F F0 43 B9 AC 9F F8 21 DC D6 4F FC 10 EE 6B 27 FE"
+     "02 13 04 3B 9A C9 FF", 312),
+)
+
+# bits with spaces between their parts, number: under the name DURATION and under its settings; zero bits fill the octet
+BITS_OF_DURATIONS = (
+    # octets that end: in the bits for optionality, before and inside a field
+    ("", 3),
+    ("10000000", 3),
+    ("11000000 0 00001 0 0", 3),
+    ("10000000 1 00000001", 3),
+    ("10000000 1 00000010 00000001", 3),
+    # "no component at all": none, and a fractional part alone
+    ("00000000", 3),
+    ("00000000 00000000", 3),
+    ("00000001 0 00 0 0000000100", 3),
+    # "weeks beside another one, decoded too"
+    ("10100000 0 00001 0 000001", 3),
+    ("01100000 0 0000 0 000001", 3),
+    ("00110000 0 000001 0 00000", 3),
+    ("00100010 0 000000 0 000000", 3),
+    # "a number that is negative or of more than nine digits": -1, -128, 1000000000, 2147483647
+    ("10000000 1 00000001 11111111", 3),
+    ("10000000 1 00000001 10000000", 3),
+    ("10000000 1 00000100 00111011 10011010 11001010 00000000", 3),
+    ("10000000 1 00000100 01111111 11111111 11111111 11111111", 3),
+    # "a free integer's length not 1 to 4"
+    ("10000000 1 00000000", 3),
+    ("10000000 1 00000101 00000000 00000000 00000000 00000001 00000000", 3),
+    ("10000000 1 10000001 00100000", 3),
+    # "a decoded fraction of no digits, of over nine": above the root's numbers, 0, 10, -1
+    ("00000011 0 000000 0 11 0 0000000100", 3),
+    ("00000011 0 000000 1 00000001 00000000 0 0000000100", 3),
+    ("00000011 0 000000 1 00000001 00000000 1 00000001 00000000", 3),
+    ("00000011 0 000000 1 00000001 00001010 0 0000000100", 3),
+    ("00000011 0 000000 1 00000001 11111111 0 0000000100", 3),
+    # "or too large for them": 10 of one digit, 100 of two, 1000 above the root's numbers, 10000 of four, and -1
+    ("00000011 0 000000 0 00 0 0000001001", 3),
+    ("00000011 0 000000 0 01 0 0001100011", 3),
+    ("00000011 0 000000 0 10 0 1111100111", 3),
+    ("00000011 0 000000 0 10 1 00000010 00000011 11101000", 3),
+    ("00000011 0 000000 1 00000001 00000100 0 1111100111", 3),
+    ("00000011 0 000000 1 00000001 00000100 1 00000010 00100111 00010000", 3),
+    ("00000011 0 000000 1 00000001 00001001 1 00000100 00111011 10011010 11001010 00000000", 3),
+    ("00000011 0 000000 0 00 1 00000001 11111111", 3),
+    # "a zero component that should be gone meets 6 in decoding": P0Y6M, P0Y0M, P1YT0H1M, PT0M0.5S
+    ("11000000 0 00000 0 0110", 6),
+    ("11000000 0 00000 0 0000", 6),
+    ("10001100 0 00001 0 00000 0 000001", 6),
+    ("00000111 0 000000 0 000000 0 00 0 0000000100", 6),
+    # "as does a number after a 1 bit that fits without it": 0, 31, 15, 63, three digits, fractional values 1 and 999
+    ("10000000 1 00000001 00000000", 6),
+    ("10000000 1 00000001 00011111", 6),
+    ("01000000 1 00000001 00001111", 6),
+    ("00100000 1 00000001 00111111", 6),
+    ("00000011 0 000000 1 00000001 00000001 0 0000000100", 6),
+    ("00000011 0 000000 1 00000001 00000011 0 0000000100", 6),
+    ("00000011 0 000000 0 00 1 00000001 00000001", 6),
+    ("00000011 0 000000 0 10 1 00000010 00000011 11100111", 6),
+    # "integer not shortest": 32 in two octets and in four, four digits in two, fractional values 0 and 1000
+    ("10000000 1 00000010 00000000 00100000", 6),
+    ("10000000 1 00000100 00000000 00000000 00000000 00100000", 6),
+    ("00000011 0 000000 1 00000010 00000000 00000100 0 0000000100", 6),
+    ("00000011 0 000000 0 00 1 00000010 00000000 00000000", 6),
+    ("00000011 0 000000 1 00000001 00000100 1 00000011 00000000 00000011 11101000", 6),
+    # "filling not zero", "octets left over"
+    ("10000000 0 00001 01", 6),
+    ("10000000 0 00001 10", 6),
+    ("10000000 0 00001 00 00000000", 6),
+    # "When several hold, the lowest number is given.": a zero component, a 1 bit, and then a 3
+    ("11000000 0 00000 1 00000001 11111111", 3),
+    ("11000000 0 00000 0 0", 3),
+    ("11000000 1 00000001 00000001 1 00000000", 3),
+    ("10100000 0 00000 1 00000001 00000001", 3),
+    ("00000111 0 000000 0 000000 0 11 0 0000000100", 3),
+    ("00000001 0 00 1 00000001 00000001", 3),
+    ("00000011 1 00000001 00000001 0 00 0 0000001001", 3),
+)
+
+# the letters of a duration, with the highest number of each root
+DATE_LETTERS, TIME_LETTERS = ((b"Y", 31), (b"M", 15), (b"D", 31)), ((b"H", 31), (b"M", 63), (b"S", 63))
+
+
+def short_durations():
+    """Canonical texts: all with one number of a root, and all with two; any other takes more than three octets, as a
+    third number takes at least 5 of 25 bits, and a free integer or a fractional part at least 13 of 25."""
+    alone = [(b"P", letter, highest) for letter, highest in (*DATE_LETTERS, (b"W", 63))]
+    alone += [(b"PT", letter, highest) for letter, highest in TIME_LETTERS]
+    for start, letter, highest in alone:
+        yield from (b"%s%d%s" % (start, number, letter) for number in range(highest + 1))
+    pairs = [(b"P", first, b"", second) for first, second in itertools.combinations(DATE_LETTERS, 2)]
+    pairs += [(b"PT", first, b"", second) for first, second in itertools.combinations(TIME_LETTERS, 2)]
+    pairs += [(b"P", first, b"T", second) for first, second in itertools.product(DATE_LETTERS, TIME_LETTERS)]
+    for start, (letter, highest), between, (last_letter, last_highest) in pairs:
+        for number, last in itertools.product(range(1, highest + 1), range(last_highest + 1)):
+            yield b"%s%d%s%s%d%s" % (start, number, letter, between, last, last_letter)
+
+
+def short_octets():
+    """All octets up to two; of three, where the first says years and months, every fourth; and some of all others."""
+    for count in range(3):
+        yield from (bytes(octets) for octets in itertools.product(range(256), repeat=count))
+    yield from (bytes(octets) for octets in itertools.product((0xC0,), range(256), range(0, 256, 4)))
+    yield from (bytes(octets) for octets in itertools.product(range(256), range(5, 256, 25), (0x00, 0x60, 0x61)))
+
+
+def check_short_durations():
+    """The reader takes exactly the octets that the writer writes for some text, and gives that text back."""
+    written, numbers = {}, set()
+    for text in short_durations():
+        number, octets, bits = per.encode(b"DURATION", NO_LIMITS, text, ROOM)
+        agree((number, len(octets) <= 3, octets in written), (0, True, False), "short duration", text)
+        written[octets] = (0, text, bits)
+    for octets in set(short_octets()).union(written):
+        found = per.decode(b"DURATION", NO_LIMITS, octets, ROOM)
+        agree(found if found[0] == 0 else None, written.get(octets), "short octets", octets)
+        numbers.add(found[0])
+    agree(numbers, {0, 3, 6}, "numbers of short octets")
+
+
+def check_durations():
+    """Values and refusals of durations, under the name and under its settings."""
+    for type_text in (b"DURATION", INTERVAL_D):
+        for text, octets, bits in DURATIONS:
+            check_value(per, NO_LIMITS, type_text, text, bytes.fromhex(octets), bits)
+        for bits, number in BITS_OF_DURATIONS:
+            octets = fill(bits.replace(" ", ""))
+            check_refused(per.decode, NO_LIMITS, type_text, octets, ROOM, number)
+            check_refused(per.decode, NO_LIMITS, type_text, octets, 0, number)
+            check_refused(per.decode, BOTH_LIMITS, type_text, octets, 0, 1)
+    check_short_durations()
+
 
 def main():
     """Ends with a message at the first disagreement; prints nothing when there is none."""
@@ -157,6 +347,7 @@ def main():
         check_refused(per.encode, limits, type_text, text, room, number)
     for limits, type_text, octets, room, number in REFUSED_OCTETS:
         check_refused(per.decode, limits, type_text, bytes.fromhex(octets), room, number)
+    check_durations()
 
 
 if __name__ == "__main__":

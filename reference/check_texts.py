@@ -1,8 +1,14 @@
-"""Checks settings.py and texts.py against hand-written cases from document 01's sentences and "Checked values"."""
+"""Checks settings.py, texts.py and durations.py against hand-written cases from document 01's sentences, "Checked
+values" and request #101, and durations also against 34 bis.3.6 and 11.9 d as patterns."""
 
-from checks import EMPTY_WINDOW, NO_HOUR_24, YEARS_2000_TO_2010, agree
-from checks import H_L, HF1_L, HM_LD, HM_Z, HMSF3_L, HMSF4_L, YW_T_HM_LD
+import itertools
+import re
+
+from checks import BOTH_LIMITS, EMPTY_WINDOW, INTERVAL_D, LONGEST_DURATION, NO_HOUR_24, YEARS_2000_TO_2010, agree
+from checks import H_L, HF1_L, HM_LD, HM_Z, HMS_L, HMSF3_L, HMSF4_L, YMD_T_HMS_L, YW_T_HM_LD
 from checks import Y_BASIC, Y_L5, Y_NEGATIVE, Y_PROLEPTIC, YD_BASIC, YMD_PROLEPTIC, YW_BASIC, YWD_BASIC
+from durations import canonical, read_duration
+from octets import Octets
 from settings import NO_LIMITS, fraction_digits, is_refused, read_type, same_rows
 from texts import judge, read_text
 
@@ -94,6 +100,110 @@ TEXTS = (
     (NO_HOUR_24, b"DATE", b"2006-06-13", 1, None),
     # "A lowest year above the highest makes a type with no values."
     (EMPTY_WINDOW, b"DATE", b"2005-06-13", 5, None),
+    # a duration has neither a date nor a time, and so no limits
+    (YEARS_2000_TO_2010, b"DURATION", b"P1Y6M", 1, None),
+    (EMPTY_WINDOW, b"DURATION", b"P1Y6M", 1, None),
+    (NO_HOUR_24, INTERVAL_D, b"PT24H", 1, None),
+    (BOTH_LIMITS, INTERVAL_D, b"P1Y6M", 1, None),
+    # a text of another type
+    (NO_LIMITS, b"DATE", b"P1Y6M", 3, None),
+    (NO_LIMITS, H_L, b"PT5H", 3, None),
+    (NO_LIMITS, b"DURATION", b"2006-06-13", 3, None),
+    (NO_LIMITS, INTERVAL_D, b"15:27:46", 3, None),
+)
+
+# text, canonical text: under the name DURATION and under its settings; None for refusal 3
+DURATIONS = (
+    # "My mail asks for `P1Y6M` or `PT0.5S`."
+    (b"P1Y6M", b"P1Y6M"),
+    (b"PT0.5S", b"PT0.5S"),
+    # "`P0Y0M1D` becomes `P1D`, `P0Y0M` becomes `P0M`, `P1Y0M` stays"
+    (b"P0Y0M1D", b"P1D"),
+    (b"P0Y0M", b"P0M"),
+    (b"P1Y0M", b"P1Y0M"),
+    # 34 bis.3.6.14, example 1
+    (b"P0Y29M", b"P29M"),
+    (b"P0Y29M0D", b"P29M0D"),
+    (b"P0Y29M0DT0H0M0S", b"P29MT0S"),
+    (b"P0Y29M0DT0,00H", b"P29MT0.00H"),
+    (b"P0Y29M0DT0H0M0.000S", b"P29MT0.000S"),
+    # 34 bis.3.6.14, example 2: "all represent the same abstract value"
+    (b"P0Y29M0DT0H0.00M", b"P29MT0.00M"),
+    (b"P0Y29M0DT0.00M", b"P29MT0.00M"),
+    (b"P0Y29MT0H0.00M", b"P29MT0.00M"),
+    (b"P0Y29MT0.00M", b"P29MT0.00M"),
+    (b"P29M0DT0H0.00M", b"P29MT0.00M"),
+    (b"P29M0DT0.00M", b"P29MT0.00M"),
+    (b"P29MT0H0.00M", b"P29MT0.00M"),
+    (b"P29MT0.00M", b"P29MT0.00M"),
+    # each component alone, and all but weeks together
+    (b"P1Y", b"P1Y"),
+    (b"P2M", b"P2M"),
+    (b"P3W", b"P3W"),
+    (b"P4D", b"P4D"),
+    (b"PT5H", b"PT5H"),
+    (b"PT6M", b"PT6M"),
+    (b"PT7S", b"PT7S"),
+    (b"P2Y10M15DT10H20M30S", b"P2Y10M15DT10H20M30S"),
+    # "only the last component may have a fraction, of one to nine digits"
+    (b"P1.5Y", b"P1.5Y"),
+    (b"P1Y1,5M", b"P1Y1.5M"),
+    (b"P0,25W", b"P0.25W"),
+    (b"PT1.123456789H", b"PT1.123456789H"),
+    (b"P1.5Y1M", None),
+    (b"P1.5YT1S", None),
+    (b"PT0.5M0S", None),
+    (b"PT1.1234567890S", None),
+    (b"PT1.S", None),
+    (b"PT.5S", None),
+    (b"PT1.5.5S", None),
+    # the fraction's trailing zeros are of the value
+    (b"PT0.50S", b"PT0.50S"),
+    # "each number has at most nine digits and no needless leading zero"
+    (b"P0Y", b"P0Y"),
+    (b"P00Y", None),
+    (b"P01Y", None),
+    (b"PT00.5S", None),
+    (b"P999999999Y", b"P999999999Y"),
+    (b"P1000000000Y", None),
+    (b"PT1M0000000001S", None),
+    (LONGEST_DURATION, LONGEST_DURATION),
+    # "no component at all"
+    (b"", None),
+    (b"P", None),
+    (b"PT", None),
+    (b"P1YT", None),
+    # "weeks beside another one"
+    (b"P1Y1W", None),
+    (b"P1W1D", None),
+    (b"P0Y1W", None),
+    (b"P1W0D", None),
+    (b"P0WT1H", None),
+    (b"PT1W", None),
+    # another order, twice, and on the other side of [T]
+    (b"P1M1Y", None),
+    (b"PT1S1M", None),
+    (b"P1Y1Y", None),
+    (b"P1H", None),
+    (b"P1S", None),
+    (b"PT1Y", None),
+    (b"PT1D", None),
+    (b"P1YT1HT1M", None),
+    # signs, small letters, spaces, a number without a letter, and no [P]
+    (b"-P1Y", None),
+    (b"P-1Y", None),
+    (b"P+1Y", None),
+    (b"p1y", None),
+    (b"P1y", None),
+    (b"Pt1S", None),
+    (b" P1Y", None),
+    (b"P1Y ", None),
+    (b"P 1Y", None),
+    (b"P1", None),
+    (b"P1Y6", None),
+    (b"1Y6M", None),
+    (b"PP1Y", None),
+    (b'"P1Y"', None),
 )
 
 # type, number: 0 where the type is not refused
@@ -125,15 +235,45 @@ TYPES = (
     (Y_BASIC + b" |" + Y_PROLEPTIC, 1),
     # "Centuries and intervals are no base types, and all their settings are refusal 1."
     (b"Basic=Date Date=C Year=Basic", 1),
-    (b"Basic=Interval Interval-type=D", 1),
+    # "Add `Basic=Interval Interval-type=D` and the name DURATION"
+    (INTERVAL_D, 0),
+    (b"Interval-type=D Basic=Interval", 0),
+    (b"DURATION", 0),
+    # missing, repeated, and beside other settings
+    (b"Basic=Interval", 1),
+    (b"Interval-type=D", 1),
+    (INTERVAL_D + b" Interval-type=D", 1),
+    (INTERVAL_D + b" Date=YMD Year=Basic", 1),
+    (INTERVAL_D + b" Time=HMS Local-or-UTC=L", 1),
+    (b"Basic=Date Date=Y Year=Basic Interval-type=D", 1),
+    (b"Basic=Time Time=H Local-or-UTC=L Interval-type=D", 1),
+    # the other words of Interval-type, and those of other intervals
+    (b"Basic=Interval Interval-type=SE", 1),
+    (b"Basic=Interval Interval-type=SD", 1),
+    (b"Basic=Interval Interval-type=DE", 1),
+    (INTERVAL_D + b" SE-point=Date", 1),
+    (b"Basic=Interval Interval-type=SE SE-point=Date Date=YMD Year=Basic", 1),
+    (b"Basic=Rec-Interval Interval-type=D", 1),
+    # "two equal lists, are refusal 1; any other difference is 2"; a name "beside a bar" is 1
+    (INTERVAL_D + b"|Interval-type=D Basic=Interval", 1),
+    (INTERVAL_D + b"|" + Y_BASIC, 2),
+    (HMS_L + b"|" + INTERVAL_D, 2),
+    (INTERVAL_D + b"|Basic=Interval Interval-type=SE", 1),
+    (b"DURATION|" + INTERVAL_D, 1),
+    (b"DURATION|DATE", 1),
 )
 
-# type, text, whether it has a comma, whether it has a difference's minutes that are 0
+# type, text, whether it has a comma, a difference's minutes that are 0, and zero components
 SPELLINGS = (
     # "DER contents with a comma or `:00` count as of the form, so they meet 6 and not 3."
-    (HMSF3_L, b"15:27:46,500", True, False),
-    (HM_LD, b"15:27+01:00", False, True),
-    (HM_LD, b"15:27+01", False, False),
+    (HMSF3_L, b"15:27:46,500", True, False, False),
+    (HM_LD, b"15:27+01:00", False, True, False),
+    (HM_LD, b"15:27+01", False, False, False),
+    # "a zero component that should be gone meets 6 in decoding"
+    (b"DURATION", b"P0Y1M", False, False, True),
+    (b"DURATION", b"P0Y1,5M", True, False, True),
+    (b"DURATION", b"P1,5M", True, False, False),
+    (b"DURATION", b"P1Y0M", False, False, False),
 )
 
 # type, type, same rows, their numbers of fraction digits
@@ -149,19 +289,80 @@ ROWS = (
     (b"TIME-OF-DAY", HMSF3_L, False, 0, 3),
     # "the same Local-or-UTC"
     (HM_LD, HM_Z, False, 0, 0),
+    # "with row 37 as one row"
+    (b"DURATION", INTERVAL_D, True, 0, 0),
+    (INTERVAL_D, b"Interval-type=D Basic=Interval", True, 0, 0),
+    (b"DURATION", b"DATE", False, 0, 0),
+    (b"DURATION", b"TIME-OF-DAY", False, 0, 0),
+    (INTERVAL_D, YMD_T_HMS_L, False, 0, 0),
+    (INTERVAL_D, HMSF3_L, False, 0, 3),
 )
+
+# 34 bis.3.6 for a duration without a fractional part, where `N` stands for a number
+NUMBER = rb"(?:0|[1-9][0-9]{0,8})"
+WHOLE_DURATION = re.compile(
+    rb"P(?:NW|(?=[0-9T])(?:NY)?(?:NM)?(?:ND)?(?:T(?=[0-9])(?:NH)?(?:NM)?(?:NS)?)?)".replace(b"N", NUMBER))
+
+# a fractional part before the last letter, and a zero component before another one
+FRACTIONAL_PART = re.compile(rb"[.,][0-9]{1,9}(?=[A-Z]\Z)")
+ZERO_COMPONENT = re.compile(rb"(?<![0-9])0[A-Z](?=.*[0-9])")
+
+# octets of durations, for all short texts of them
+SHORT_TEXT_OCTETS = [bytes([octet]) for octet in b"01YMWDTHS.,"]
+
+
+def canonical_by_patterns(text):
+    """The canonical text, without reading the text from the first octet on; None where it is not of the form."""
+    if not WHOLE_DURATION.fullmatch(FRACTIONAL_PART.sub(b"", text)):
+        return None
+    return ZERO_COMPONENT.sub(b"", text).replace(b",", b".")
+
+
+def short_texts():
+    """P before up to four of the octets, in every way."""
+    for count in range(5):
+        for octets in itertools.product(SHORT_TEXT_OCTETS, repeat=count):
+            yield b"P" + b"".join(octets)
+
+
+def long_texts():
+    """Every choice of components, each absent, 0, 1 or 10, and three fractional parts before the last letter."""
+    letters, numbers = (b"Y", b"M", b"W", b"D", b"H", b"M", b"S"), (None, b"0", b"1", b"10")
+    for chosen in itertools.product(numbers, repeat=len(letters)):
+        parts = [number + letter if number else b"" for number, letter in zip(chosen, letters)]
+        dates, times = b"".join(parts[:4]), b"".join(parts[4:])
+        text = b"P" + dates + (b"T" + times if times else b"")
+        yield from (text[:-1] + fraction + text[-1:] for fraction in (b"", b".0", b",25"))
+
+
+def check_durations():
+    """The texts of durations against the patterns; "Show that making canonical twice changes nothing more"."""
+    t, accepted = read_type(b"DURATION"), set()
+    for text in itertools.chain(short_texts(), long_texts()):
+        expected = canonical_by_patterns(text)
+        agree(read_text(t, text) is not None, expected is not None, "form of", text)
+        if expected is not None:
+            agree(judge(b"DURATION", NO_LIMITS, text), (0, expected), "canonical text of", text)
+            duration, _ = read_duration(Octets(text))
+            agree(canonical(canonical(duration)), canonical(duration), "twice", text)
+            accepted.add(expected)
+    for text in accepted:
+        agree(judge(INTERVAL_D, NO_LIMITS, text), (0, text), "canonical text again", text)
 
 
 def main():
     """Ends with a message at the first disagreement; prints nothing when there is none."""
-    for limits, type_text, text, number, canonical in TEXTS:
-        agree(judge(type_text, limits, text), (number, canonical), limits, type_text, text)
+    for limits, type_text, text, number, expected in TEXTS:
+        agree(judge(type_text, limits, text), (number, expected), limits, type_text, text)
+    for type_text, (text, expected) in itertools.product((b"DURATION", INTERVAL_D), DURATIONS):
+        agree(judge(type_text, NO_LIMITS, text), (0 if expected else 3, expected), type_text, text)
+    check_durations()
     for type_text, number in TYPES:
         read = read_type(type_text)
         agree(read if is_refused(read) else 0, number, type_text)
-    for type_text, text, comma, zero_minutes in SPELLINGS:
+    for type_text, text, *expected in SPELLINGS:
         _, spelling = read_text(read_type(type_text), text)
-        agree((spelling.comma, spelling.zero_minutes), (comma, zero_minutes), "spelling", type_text, text)
+        agree(list(spelling), expected, "spelling", type_text, text)
     for first, second, same, first_digits, second_digits in ROWS:
         a, b = read_type(first), read_type(second)
         agree(same_rows(a, b), same, "same rows", first, second)

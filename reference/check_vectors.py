@@ -1,6 +1,6 @@
 """Checks per.py against the vectors of an outside tool: the octets of each text, and the text of the octets."""
 
-from checks import ROOM, agree
+from checks import INTERVAL_D, ROOM, agree
 from coding_lines import VECTORS
 from per import decode, encode
 from settings import NO_LIMITS
@@ -17,6 +17,8 @@ def main():
     """Prints nothing where all agree."""
     lines = VECTORS.read_bytes().splitlines()
     agree(len(lines) >= 3000, True, "vectors are there")
+    types = [line.split(b";")[0] for line in lines]
+    agree(types.count(b"DURATION") == types.count(INTERVAL_D) >= 150, True, "vectors of durations are there")
     for line in lines:
         type_text, text, octets = line.split(b";")
         check(type_text, text, bytes.fromhex(octets.decode("ascii")))

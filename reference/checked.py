@@ -11,7 +11,7 @@ import sys
 
 import der
 import per
-from checks import HM_LD, HMSF3_L, HMSF4_L, ROOM, Y_BASIC, Y_L5, Y_PROLEPTIC, YMD_BASIC, YMD_PROLEPTIC
+from checks import HM_LD, HMSF3_L, HMSF4_L, INTERVAL_D, ROOM, Y_BASIC, Y_L5, Y_PROLEPTIC, YMD_BASIC, YMD_PROLEPTIC
 from settings import Limits, NO_LIMITS
 
 WORKS = {b"per": per.encode, b"der": der.encode, b"unper": per.decode, b"under": der.decode}
@@ -47,6 +47,18 @@ GOOD_VALUES = (
     (b"DATE-TIME", b"2000..2010,no24", b"2006-06-13T15:27:46"),
     (YMD_NEGATIVE_L5, b"-44..-44", b"-0044-03-15"),
     (HM_LD, b"none", b"15:27-05:30"),
+    (b"DURATION", b"none", b"P1Y6M"),
+    (b"DURATION", b"none", b"PT0.5S"),
+    (INTERVAL_D, b"none", b"PT0.5S"),
+    (b"DURATION", b"none", b"P1D"),
+    (INTERVAL_D, b"none", b"P0M"),
+    (b"DURATION", b"none", b"P1Y0M"),
+    (b"DURATION", b"none", b"P5W"),
+    (INTERVAL_D, b"none", b"P64W"),
+    (b"DURATION", b"none", b"P2Y10M15DT10H20M30S"),
+    (INTERVAL_D, b"none", b"P999999999Y"),
+    (b"DURATION", b"none", b"PT0.000S"),
+    (INTERVAL_D, b"none", b"PT0.1000S"),
 )
 
 # type, limits, text
@@ -65,6 +77,22 @@ REFUSED_TEXTS = (
     (b"TIME-OF-DAY", b"2000..2010", b"15:27:46"),
     (b"DATE", b"no24", b"2006-06-13"),
     (Y_BASIC + b"|" + Y_L5, b"none", b"2006"),
+    (b"DURATION", b"none", b""),
+    (b"DURATION", b"none", b"P"),
+    (b"DURATION", b"none", b"P1YT"),
+    (b"DURATION", b"none", b"P01Y"),
+    (b"DURATION", b"none", b"P1.5Y6M"),
+    (b"DURATION", b"none", b"P1000000000Y"),
+    (b"DURATION", b"none", b"PT0.1234567890S"),
+    (INTERVAL_D, b"none", b"P0Y1W"),
+    (INTERVAL_D, b"none", b"P6M1Y"),
+    (INTERVAL_D, b"none", b"P-1Y"),
+    (b"DURATION", b"none", b"2006-06-13"),
+    (b"DATE", b"none", b"P1Y6M"),
+    (b"DURATION", b"2000..2010", b"P1Y6M"),
+    (INTERVAL_D, b"no24", b"P01Y"),
+    (INTERVAL_D + b"|" + INTERVAL_D, b"none", b"P1Y6M"),
+    (INTERVAL_D + b"|" + Y_BASIC, b"none", b"P1Y6M"),
 )
 
 
@@ -95,6 +123,28 @@ def refused_octets():
         (b"under", HMSF3_L, b"none", b"\x0E\x0C15:27:46,500"),
         (b"under", HM_LD, b"none", b"\x0E\x0B15:27+01:00"),
         (b"under", b"DATE", b"none", octets_of(b"der", YMD_BASIC, b"2006-06-13")),
+        # no component, weeks beside years, -1 years, a fraction of one digit that is 10, and an end inside a field
+        (b"unper", b"DURATION", b"none", b"\x00"),
+        (b"unper", b"DURATION", b"none", b"\xA0\x04\x08"),
+        (b"unper", b"DURATION", b"none", b"\x80\x80\xFF\x80"),
+        (b"unper", b"DURATION", b"none", b"\x03\x00\x00\x48"),
+        (b"unper", INTERVAL_D, b"none", b"\xC0\x04"),
+        # P0Y6M, 31 years after a 1 bit, a filling that is not zero, and an octet left over
+        (b"unper", b"DURATION", b"none", b"\xC0\x00\xC0"),
+        (b"unper", b"DURATION", b"none", b"\x80\x80\x8F\x80"),
+        (b"unper", INTERVAL_D, b"none", b"\x10\x05"),
+        (b"unper", INTERVAL_D, b"none", b"\x10\x04\x00"),
+        (b"unper", b"DURATION", b"2000..2010", octets_of(b"per", b"DURATION", b"P1Y6M")),
+        # no contents, a P under the name, the other tag, no P under the list
+        (b"under", b"DURATION", b"none", b"\x1F\x22\x00"),
+        (b"under", b"DURATION", b"none", b"\x1F\x22\x05P1Y6M"),
+        (b"under", b"DURATION", b"none", octets_of(b"der", INTERVAL_D, b"P1Y6M")),
+        (b"under", INTERVAL_D, b"none", b"\x0E\x041Y6M"),
+        # a zero component, a comma, and an octet left over
+        (b"under", b"DURATION", b"none", b"\x1F\x22\x040Y6M"),
+        (b"under", INTERVAL_D, b"none", b"\x0E\x06PT0,5S"),
+        (b"under", b"DURATION", b"none", b"\x1F\x22\x041Y6M\x00"),
+        (b"under", INTERVAL_D, b"no24", b"\x0E\x05P1Y6M"),
     )
 
 

@@ -5,8 +5,8 @@ import sys
 from settings import Limits
 from texts import judge
 
-# more octets than any result has
-ROOM = 64
+# more octets than any result has: a duration has up to 74
+ROOM = 136
 
 YEARS_2000_TO_2010 = Limits((2000, 2010), False)
 EMPTY_WINDOW = Limits((2010, 2000), False)
@@ -39,6 +39,10 @@ HMSF4_L = b"Basic=Time Time=HMSF4 Local-or-UTC=L"
 YMD_T_HMS_L = b"Basic=Date-Time Date=YMD Year=Basic Time=HMS Local-or-UTC=L"
 YW_T_HM_LD = b"Basic=Date-Time Date=YW Year=Basic Time=HM Local-or-UTC=LD"
 YW_T_HMF1_LD = b"Basic=Date-Time Date=YW Year=Negative Time=HMF1 Local-or-UTC=LD"
+INTERVAL_D = b"Basic=Interval Interval-type=D"
+
+# the most octets that a duration has: six numbers and a fraction, each of nine digits
+LONGEST_DURATION = b"P999999999Y999999999M999999999DT999999999H999999999M999999999.999999999S"
 
 
 def agree(found, expected, *what):

@@ -14,12 +14,14 @@ import sys
 from pathlib import Path
 
 import der
+import duration_fields
+import duration_texts
 import elements
 import per
 import value_lines
+from bits import fill, free_integer_bits, free_integer_length, integer_bits, number_bits, octet_bits
 from elements import element
-from per import DAY_TIME_FIELDS, fill, free_integer_bits, free_integer_length, number_bits, octet_bits
-from per import read_octets, value_bits
+from per import DAY_TIME_FIELDS, read_octets, value_bits
 from settings import is_refused, read_type
 from texts import read_text
 from value_lines import DATES, DATE_TAILS, MENU, TIMES, WINDOWS, YEAR_CHOICES, ZONES
@@ -106,11 +108,6 @@ def both_ways_of(section):
     for each in section:
         limits, type_text, text = each.split(b";", 2)
         yield from both_ways(type_text, text, limits)
-
-
-def integer_bits(number, length):
-    """A free integer of that length, "the fewest possible" or not."""
-    return octet_bits(bytes([length]) + number.to_bytes(length, "big", signed=True))
 
 
 def integers():
@@ -787,6 +784,95 @@ def vectors_of_der():
         yield decode_line(type_text, octets)
 
 
+def durations():
+    """Each fourth text of durations, good or not, both ways."""
+    questions = itertools.chain(duration_texts.good_texts(), duration_texts.wrong_texts())
+    for type_text, text in duration_texts.with_types(itertools.islice(questions, 0, None, 4)):
+        yield from both_ways(type_text, text)
+
+
+def fields_of_durations():
+    """Half of the bits of durations, under the name and under the settings in turn; the others are converted."""
+    for k, bits in enumerate(itertools.islice(duration_fields.all_bits(), 1, None, 2)):
+        yield bits_line((duration_texts.NAME, duration_texts.LIST)[k % 2], bits)
+
+
+def changed_durations():
+    """Encodings of durations cut at every octet, lengthened, and with each of their bits turned; the same in DER."""
+    for k, (type_text, text) in enumerate(duration_texts.SAMPLE):
+        octets = fill(bits_of(type_text, text))
+        cut = (octets[:length] for length in range(len(octets)))
+        longer = (octets + more for more in (b"\x00", b"\x01", b"\x80", b"\xff", octets))
+        turned = turned_bits(octets) if len(octets) <= 6 else ()
+        yield from (decode_line(type_text, changed) for changed in itertools.chain([octets], cut, longer, turned))
+        if k < 2:
+            yield from element_lines(elements.changed(type_text, text))
+            yield from element_lines(elements.with_other_tags(type_text, text), room=b"k")
+            yield from element_lines(elements.with_long_lengths(type_text, text))
+
+
+def elements_of_durations():
+    """Contents of durations behind both tags and under other types, and every number in the length."""
+    yield from element_lines(elements.durations_in_contents())
+    yield from element_lines(elements.durations_under_others())
+    yield from element_lines(elements.with_every_length(duration_texts.NAME, b"P1Y6M", b"Y6M"))
+
+
+def rooms_of_durations():
+    """Rooms of no octet, too short by one, exact and longer by one, both ways; a result of more than 64 octets too."""
+    for type_text, text in duration_texts.SAMPLE[:6]:
+        in_per, in_der = fill(bits_of(type_text, text)), element(type_text, text)
+        for length in sorted({0, len(in_per) - 1, len(in_per), len(in_per) + 1}):
+            yield encode_line(type_text, text, room=ROOM_OF[length])
+        for length in sorted({0, len(in_der) - 1, len(in_der), len(in_der) + 1}):
+            yield b"t" + encode_line(type_text, text, room=ROOM_OF[length])[1:]
+        for length in sorted({0, len(text) - 1, len(text), len(text) + 1}):
+            yield decode_line(type_text, in_per, room=ROOM_OF[length])
+            yield element_line(type_text, in_der, room=ROOM_OF[length])
+    for type_text, room in itertools.product((duration_texts.NAME, duration_texts.LIST), (b"L", b"M", b"N", b"*")):
+        yield encode_line(type_text, max(duration_texts.components_together(), key=len), room=room)
+
+
+def limits_on_durations():
+    """Each limit on a duration, which has no place for any, whatever else is wrong, both ways."""
+    for limits, type_text in itertools.product(sorted(MENU), (duration_texts.NAME, duration_texts.LIST)):
+        yield from (encode_line(type_text, text, limits) for text in (b"P1Y6M", b"P01Y"))
+        yield from (decode_line(type_text, octets, limits) for octets in (b"\xC0\x04\xC0", b"\x00"))
+        yield element_line(type_text, element(type_text, b"P1Y6M"), limits, b"a")
+
+
+def durations_and_points():
+    """Encodings of durations under other types, and of the sample under those of durations."""
+    for k, (type_text, octets) in enumerate(sample_octets()):
+        yield decode_line((duration_texts.NAME, duration_texts.LIST)[k % 2], octets)
+        yield decode_line(type_text, fill(bits_of(*duration_texts.SAMPLE[k % 7])))
+    for k, type_text in enumerate(itertools.islice(duration_texts.other_types(), 0, None, 3)):
+        yield (encode_line(type_text, b"P1Y6M"), decode_line(type_text, b"\xC0\x04\xC0"))[k % 2]
+
+
+def any_duration(numbers):
+    """A text of a duration: some components of any number, at times 0, and at times a fraction."""
+    places = [place for place in duration_texts.SIX if numbers.below(2)] or [2]
+    texts = [b"%d" % numbers.below(numbers.one_of((1, 20, 100, 10 ** 9))) for _ in places]
+    if numbers.below(2):
+        digits = 1 + numbers.below(9)
+        texts[-1] += numbers.one_of((b".", b",")) + b"%0*d" % (digits, numbers.below(10 ** numbers.one_of((1, digits))))
+    return duration_texts.with_numbers(places, texts)
+
+
+def any_durations():
+    """Durations of any numbers both ways, octets of any number, and elements that are changed."""
+    numbers = Numbers(6)
+    types = (duration_texts.NAME, duration_texts.LIST)
+    for _ in range(100):
+        type_text, text = numbers.one_of(types), any_duration(numbers)
+        yield from both_ways(type_text, text)
+        yield element_line(type_text, any_element(numbers, type_text, text))
+    for _ in range(150):
+        octets = bytes(numbers.below(256) for _ in range(1 + numbers.below(9)))
+        yield decode_line(numbers.one_of(types), bytes([octets[0] & ~0x20 & numbers.below(256)]) + octets[1:])
+
+
 def last_line():
     """The line without a newline at its end."""
     yield decode_line(b"DATE-TIME", fill(bits_of(b"DATE-TIME", b"2009-12-31T23:59:60")), b"9", b"t")
@@ -798,7 +884,9 @@ SECTIONS = (
     fraction_fields, fractions_at_hour_24, date_fields, time_fields, rooms, rooms_in_der, changed_elements,
     lengths_of_elements, names_in_elements, causes_in_octets, causes_in_elements, causes_in_names, causes_in_years,
     causes_in_texts, cross_table, cross_table_in_der, refused_types, restrictions_without_place, any_values,
-    any_octets, any_elements, long_inputs, small_hex, vectors, vectors_of_der, other_lines, last_line,
+    any_octets, any_elements, long_inputs, small_hex, vectors, vectors_of_der, other_lines, durations,
+    fields_of_durations, changed_durations, elements_of_durations, rooms_of_durations, limits_on_durations,
+    durations_and_points, any_durations, last_line,
 )
 
 

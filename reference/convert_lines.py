@@ -10,20 +10,22 @@ import sys
 from collections import namedtuple
 
 import der
+import duration_fields
+import duration_texts
 import per
 import coding_lines
 import elements
 import value_lines
+from bits import fill
 from lines import split_lines
-from per import fill
 from coding_lines import BASIC, BASIC_PROLEPTIC, HEX, L5, LONGEST_LINE, NEGATIVE, NEGATIVE_L5, PROLEPTIC, bits_of
 from elements import der_vectors, element
 from settings import NO_LIMITS
 from value_lines import DATES, DATE_TAILS, TIMES, WHOLE_TIMES, YEAR_CHOICES, ZONES
 from value_lines import date_time_type, date_type, time_text, time_type
 
-# more octets than any result has
-ROOM = 64
+# more octets than any result has: a duration has up to 74
+ROOM = 136
 
 # how the input is read, what is done with it, and how the result is written
 Work = namedtuple("Work", "read convert write")
@@ -549,6 +551,74 @@ def other_works():
     yield from (work + rest for work, rest in itertools.product(works, rests))
 
 
+def good_durations():
+    """Texts of durations, each second in every work, and the others written in PER or in DER."""
+    for k, (type_text, text) in enumerate(duration_texts.with_types(duration_texts.good_texts())):
+        yield from all_works(type_text, text) if k % 2 == 0 else [line((b"per", b"der")[k // 2 % 2], type_text, text)]
+
+
+def other_durations():
+    """Texts that no duration has, written in PER or in DER, and some of them as elements."""
+    for k, (type_text, text) in enumerate(duration_texts.with_types(duration_texts.wrong_texts())):
+        yield line((b"per", b"der")[k % 2], type_text, text)
+        if k % 3 == 0:
+            yield from under_lines((type_text, octets) for octets in elements.spellings(type_text, text))
+
+
+def durations_in_octets():
+    """Encodings of durations cut at every octet, lengthened, and with each of their bits turned, and half of the bits
+    of durations."""
+    for type_text, text in duration_texts.SAMPLE:
+        octets = fill(bits_of(type_text, text))
+        cut = (octets[:length] for length in range(len(octets)))
+        longer = (octets + more for more in (b"\x00", b"\x01", b"\xff", b"\x00" * 9, octets))
+        turned = coding_lines.turned_bits(octets) if len(octets) <= 6 else ()
+        yield from (unper_line(type_text, changed) for changed in itertools.chain([octets], cut, longer, turned))
+    for k, bits in enumerate(duration_fields.all_bits()):
+        if k % 2 == 0:
+            yield unper_line((duration_texts.NAME, duration_texts.LIST)[k // 2 % 2], fill(bits))
+
+
+def durations_in_elements():
+    """Elements of durations that are changed, and contents of durations behind both tags and under other types."""
+    for type_text, text in duration_texts.SAMPLE[:3]:
+        yield from under_lines(elements.changed(type_text, text))
+        yield from under_lines(elements.with_other_tags(type_text, text))
+        yield from under_lines(elements.with_long_lengths(type_text, text))
+    yield from under_lines(elements.with_every_length(duration_texts.NAME, b"P1Y6M"))
+    yield from under_lines(elements.durations_in_contents())
+    yield from under_lines(elements.durations_under_others())
+
+
+def durations_and_points():
+    """Durations under the types of dates and times, and the other way round, in every work."""
+    for k, (type_text, text) in enumerate(SAMPLE):
+        duration_type, duration = duration_texts.SAMPLE[k % len(duration_texts.SAMPLE)]
+        for work in (FOUR_WORKS[k % 4], FOUR_WORKS[(k + 1) % 4]):
+            yield line(work, duration_type, good_input(work, type_text, text))
+            yield line(work, type_text, good_input(work, duration_type, duration))
+
+
+def types_of_durations():
+    """Types near those of durations, in works in turn."""
+    for k, type_text in enumerate(duration_texts.other_types()):
+        for work in works_in_turn(k):
+            yield line(work, type_text, good_input(work, duration_texts.NAME, b"P1Y6M"))
+
+
+def any_durations():
+    """Durations of any numbers in every work, and octets of any number."""
+    numbers = coding_lines.Numbers(7)
+    types = (duration_texts.NAME, duration_texts.LIST)
+    for _ in range(120):
+        type_text, text = numbers.one_of(types), coding_lines.any_duration(numbers)
+        yield from all_works(type_text, text)
+        yield under_line(type_text, coding_lines.any_element(numbers, type_text, text))
+    for _ in range(200):
+        octets = bytes(numbers.below(256) for _ in range(1 + numbers.below(9)))
+        yield unper_line(numbers.one_of(types), bytes([octets[0] & ~0x20 & numbers.below(256)]) + octets[1:])
+
+
 def long_parts():
     """Long types and long texts in lines of up to 1,024 octets, in every work."""
     for type_text, given in without_limits(itertools.chain(value_lines.long_types(), value_lines.long_texts())):
@@ -642,7 +712,8 @@ SECTIONS = (
     first_lines, checked_values, good_values, vectors, boundaries, other_forms, refusals, other_spellings,
     changed_texts, changed_types, changed_octets, changed_elements, names_in_elements, dates_in_octets,
     times_in_octets, date_times_in_octets, fields_in_octets, any_values, any_octets, refused_types, all_orders,
-    hex_digits, no_hex_digits, every_octet, semicolons, other_works, long_parts,
+    hex_digits, no_hex_digits, every_octet, semicolons, other_works, long_parts, good_durations, other_durations,
+    durations_in_octets, durations_in_elements, durations_and_points, types_of_durations, any_durations,
 )
 
 # lines whose order counts, some of them more than once

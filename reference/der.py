@@ -1,14 +1,18 @@
 """DER of document 01, "Octets": "Tag, one octet of length (0 to 127), contents"."""
 
 from answers import answer_on_octets, answer_on_text
-from texts import DIGITS, canonical_text, read_text
+from octets import DIGITS
+from texts import canonical_text, read_text
 
 # "Any settings list: tag 0E, contents the canonical text. DATE: 1F 1F, without `-`. TIME-OF-DAY: 1F 20, without `:`.
-# DATE-TIME: 1F 21, without `-`, `:` and `T`."; a settings list has no name
-TAGS = {None: b"\x0E", "DATE": b"\x1F\x1F", "TIME-OF-DAY": b"\x1F\x20", "DATE-TIME": b"\x1F\x21"}
-LEFT_OUT = {None: b"", "DATE": b"-", "TIME-OF-DAY": b":", "DATE-TIME": b"-:T"}
+# DATE-TIME: 1F 21, without `-`, `:` and `T`."; "the name DURATION, DER tag 1F 22, contents without `P`"; a settings
+# list has no name
+TAGS = {
+    None: b"\x0E", "DATE": b"\x1F\x1F", "TIME-OF-DAY": b"\x1F\x20", "DATE-TIME": b"\x1F\x21", "DURATION": b"\x1F\x22",
+}
+LEFT_OUT = {None: b"", "DATE": b"-", "TIME-OF-DAY": b":", "DATE-TIME": b"-:T", "DURATION": b"P"}
 
-# "Under these three tags the contents are 8, 6 or 14 digits"
+# "Under these three tags the contents are 8, 6 or 14 digits"; a duration's contents have no such count
 DIGIT_COUNTS = {"DATE": 8, "TIME-OF-DAY": 6, "DATE-TIME": 14}
 
 # what is left out, with its place in the text
@@ -16,6 +20,7 @@ SEPARATORS = {
     "DATE": ((4, b"-"), (7, b"-")),
     "TIME-OF-DAY": ((2, b":"), (5, b":")),
     "DATE-TIME": ((4, b"-"), (7, b"-"), (10, b"T"), (13, b":"), (16, b":")),
+    "DURATION": ((0, b"P"),),
 }
 
 # "one octet of length (0 to 127)"
@@ -48,9 +53,14 @@ def read_contents(t, octets):
     return rest[:length]
 
 
-def digits_text(name, contents):
-    """The text of a name's contents, its separators put back; None as "any other octet or count is refusal 3"."""
-    if len(contents) != DIGIT_COUNTS[name] or any(octet not in DIGITS for octet in contents):
+def are_digits(name, contents):
+    """"Under these three tags the contents are 8, 6 or 14 digits"."""
+    return len(contents) == DIGIT_COUNTS[name] and all(octet in DIGITS for octet in contents)
+
+
+def name_text(name, contents):
+    """The text of a name's contents, what was left out put back; None as "any other octet or count is refusal 3"."""
+    if name in DIGIT_COUNTS and not are_digits(name, contents):
         return None
     text = contents
     for place, separator in SEPARATORS[name]:
@@ -60,10 +70,10 @@ def digits_text(name, contents):
 
 def read_octets(t, octets):
     """The value that the octets begin with, whether or not the encoder writes it so: "DER contents with a comma or
-    `:00` count as of the form, so they meet 6 and not 3"; None for refusal 3."""
+    `:00` count as of the form, so they meet 6 and not 3", and so does "a zero component"; None for refusal 3."""
     contents = read_contents(t, octets)
     if contents is not None and t.name is not None:
-        contents = digits_text(t.name, contents)
+        contents = name_text(t.name, contents)
     if contents is None:
         return None
     value, _ = read_text(t, contents) or (None, None)

@@ -7,16 +7,17 @@ import itertools
 from pathlib import Path
 
 from der import LEFT_OUT, TAGS
+from duration_texts import LIST, NAME, OTHER_LIST
 from settings import is_refused, read_type
 from texts import canonical_text, read_text
 from value_lines import NAMES, date_time_type, date_type, time_type
 
 VECTORS = Path(__file__).resolve().parent.parent / "vectors" / "der.txt"
 
-# of the four kinds of types, of DURATION, UTCTime, GeneralizedTime and VisibleString, in the form for numbers above 30,
-# in two octets more, constructed, of other classes, and none
+# of the five kinds of types, of UTCTime, GeneralizedTime and VisibleString, in the form for numbers above 30, in two
+# octets more, constructed, of other classes, and none
 OTHER_TAGS = (
-    *TAGS.values(), b"\x1F\x22", b"\x17", b"\x18", b"\x1A", b"\x1F\x0E", b"\x1F\x80\x1F", b"\x1F\x81\x1F", b"\x2E",
+    *TAGS.values(), b"\x17", b"\x18", b"\x1A", b"\x1F\x0E", b"\x1F\x80\x1F", b"\x1F\x81\x1F", b"\x2E",
     b"\x3F\x1F", b"\x3F\x20", b"\x3F\x21", b"\x4E", b"\x8E", b"\xCE", b"\x5F\x1F", b"\x9F\x1F", b"\xDF\x20", b"\x1F",
     b"\x20", b"\x21", b"\x0F", b"\x00", b"\xFF", b"\x30\x0A\x0E", b"",
 )
@@ -171,6 +172,26 @@ def fields_under_names():
     yield from ((b"TIME-OF-DAY", element(b"TIME-OF-DAY", time)) for time in times)
     for date, time in itertools.product(dates, times):
         yield b"DATE-TIME", element(b"DATE-TIME", date + time)
+
+
+def durations_in_contents():
+    """Contents of durations with P and without it, in other places and more than once, behind both tags."""
+    whole = (b"P1Y6M", b"PT0.5S", b"P5W", b"P0Y0M1D", b"P0Y0M", b"P1Y0M", b"PT0,5S", b"P0YT0M0,50S", b"P", b"PT")
+    contents = [*whole, *(text[1:] for text in whole)]
+    contents += [changed for text in whole for changed in (b"P" + text, text + b"P")]
+    contents += [b"1YP6M", b"TP1S", b"p1Y6M", b"1y6m", b" 1Y6M", b"1Y6M ", b"01Y", b"-1Y", b"1Y1W", b"1W0D", b"1.5Y6M"]
+    contents += [b"1000000000Y", b"999999999Y", b"T1", b"1Y6MT", b"2006-06-13", b"20060613", b"152746"]
+    for each, type_text in itertools.product(contents, (NAME, LIST)):
+        for tag in (tag_of(NAME), tag_of(LIST)):
+            yield type_text, tagged(tag, each)
+
+
+def durations_under_others():
+    """Elements of durations under the types of dates and times, and theirs under those of durations."""
+    points = [date_type(b"YMD", b"Basic"), time_type(b"HMS", b"L"), date_time_type(b"YMD", (b"Basic",), b"HMS", b"L")]
+    elements = [element(type_text, text) for type_text in (NAME, LIST) for text in (b"P1Y6M", b"PT0.5S", b"P2006Y")]
+    yield from itertools.product([*NAMES, *points], elements)
+    yield from itertools.product((NAME, LIST, OTHER_LIST), elements_of_names())
 
 
 def elements_of_names():

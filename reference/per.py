@@ -1,12 +1,9 @@
 """Unaligned PER of document 01, "Bits": "Fields follow one another without gaps". Bits are a text of 0 and 1."""
 
-from collections import namedtuple
-
 from answers import answer_on_octets, answer_on_text
+from bits import Bits, Field, Unreadable, field_bits, fill, free_integer_bits, number_bits
+from durations import canonical, duration_bits, take_duration
 from texts import Date, Difference, Fraction, TIME_FIELDS, Time, Value
-
-# a field of so many bits, with the lowest and the highest number of its range; the lowest is written as 0
-Field = namedtuple("Field", "lowest highest width")
 
 # "0: year - 2005 in 4 bits (2005 to 2020). 1: year - 2021 in 8 (2021 to 2276). 2: year - 1749 in 8 (1749 to 2004)"
 NEAR_YEARS = (Field(2005, 2020, 4), Field(2021, 2276, 8), Field(1749, 2004, 8))
@@ -36,77 +33,6 @@ SHORT_FRACTION = Field(0, 999, 10)
 
 # TIME-DIFFERENCE of 28 bis.3.3: "hours INTEGER (-15..16), minutes INTEGER (1..59) OPTIONAL"
 DIFFERENCE_HOURS, DIFFERENCE_MINUTES = Field(-15, 16, 5), Field(1, 59, 6)
-
-
-class Unreadable(Exception):
-    """"octets end inside a field; a field's bits above its range; a free integer's length not 1 to 4", and so on."""
-
-
-class Bits:
-    """The bits of octets, and the place up to which they are read."""
-
-    def __init__(self, octets):
-        self.bits = octet_bits(octets)
-        self.place = 0
-
-    def take(self, width):
-        """Reads so many bits as a number; "octets end inside a field" is refusal 3."""
-        end = self.place + width
-        if end > len(self.bits):
-            raise Unreadable
-        number = int(self.bits[self.place:end], 2)
-        self.place = end
-        return number
-
-    def take_field(self, field):
-        """Reads a field; "a field's bits above its range" is refusal 3."""
-        number = field.lowest + self.take(field.width)
-        if number > field.highest:
-            raise Unreadable
-        return number
-
-    def take_free_integer(self):
-        """"one octet of length, then that many octets"; "a free integer's length not 1 to 4" is refusal 3."""
-        length = self.take(8)
-        if not 1 <= length <= 4:
-            raise Unreadable
-        number = self.take(8 * length)
-        return number - (number >> (8 * length - 1) << 8 * length)
-
-
-def number_bits(number, width):
-    """A number from 0 in so many bits."""
-    return "{:0{}b}".format(number, width)
-
-
-def field_bits(field, number):
-    """A field: "Month - 1 in 4 bits", and so on."""
-    return number_bits(number - field.lowest, field.width)
-
-
-def octet_bits(octets):
-    """The bits of octets: "a place in bits becomes a place in octets only by the factor 8"."""
-    return "".join(number_bits(octet, 8) for octet in octets)
-
-
-def fill(bits):
-    """"the last octet is filled with zero bits"."""
-    filled = bits + "0" * (-len(bits) % 8)
-    return bytes(int(filled[place:place + 8], 2) for place in range(0, len(filled), 8))
-
-
-def free_integer_length(number):
-    """How many octets of two's complement, "the fewest possible"."""
-    length = 1
-    while not -(1 << (8 * length - 1)) <= number < 1 << (8 * length - 1):
-        length += 1
-    return length
-
-
-def free_integer_bits(number):
-    """"Free integer: one octet of length, then that many octets of two's complement, the fewest possible"."""
-    length = free_integer_length(number)
-    return octet_bits(bytes([length]) + number.to_bytes(length, "big", signed=True))
 
 
 def has_choice_bits(t):
@@ -157,7 +83,9 @@ def time_bits(time):
 
 
 def value_bits(t, value):
-    """"Date-time: the date's bits, then the time's"."""
+    """"Date-time: the date's bits, then the time's"; "PER encodes the canonical value" of a duration."""
+    if value.duration:
+        return duration_bits(value.duration)
     bits = ""
     if value.date:
         bits += date_bits(t, value.date)
@@ -207,10 +135,12 @@ def take_time(bits, t):
 
 
 def take_value(bits, t):
-    """"Date-time: the date's bits, then the time's"."""
+    """"Date-time: the date's bits, then the time's"; or the value of a duration, without zero components."""
+    if t.interval:
+        return Value(None, None, canonical(take_duration(bits)))
     date = take_date(bits, t) if t.date else None
     time = take_time(bits, t) if t.time else None
-    return Value(date, time)
+    return Value(date, time, None)
 
 
 def read_octets(t, octets):

@@ -2,8 +2,9 @@
 
 from collections import namedtuple
 
-# years is the set of each "Year setting that the type names"; time is the Time setting, "n aside", and digits its n
-Type = namedtuple("Type", "basic date years time digits zone name window no_hour_24")
+# years is the set of each "Year setting that the type names"; time is the Time setting, "n aside", and digits its n;
+# interval is the Interval-type setting
+Type = namedtuple("Type", "basic date years time digits zone interval name window no_hour_24")
 
 # "two restrictions that Table 2 doesn't look at": window is a lowest and a highest year, or None
 Limits = namedtuple("Limits", "window no_hour_24")
@@ -14,20 +15,22 @@ NO_LIMITS = Limits(None, False)
 WHOLE_TIMES = (b"H", b"HM", b"HMS")
 FRACTION_TIMES = tuple(b"%sF%d" % (time, n) for time in WHOLE_TIMES for n in range(1, 10))
 
-# "Base settings"
+# "Base settings"; and "Add `Basic=Interval Interval-type=D`", whose other words SE, SD and DE are not taken
 SETTINGS = {
-    b"Basic": (b"Date", b"Time", b"Date-Time"),
+    b"Basic": (b"Date", b"Time", b"Date-Time", b"Interval"),
     b"Date": (b"Y", b"YM", b"YMD", b"YD", b"YW", b"YWD"),
     b"Year": (b"Basic", b"Proleptic", b"Negative", b"L5"),
     b"Time": WHOLE_TIMES + FRACTION_TIMES,
     b"Local-or-UTC": (b"L", b"Z", b"LD"),
+    b"Interval-type": (b"D",),
 }
 
-# "The names DATE, TIME-OF-DAY and DATE-TIME may stand for their settings"
+# "The names DATE, TIME-OF-DAY and DATE-TIME may stand for their settings"; "and the name DURATION"
 NAMES = {
     b"DATE": b"Basic=Date Date=YMD Year=Basic",
     b"TIME-OF-DAY": b"Basic=Time Time=HMS Local-or-UTC=L",
     b"DATE-TIME": b"Basic=Date-Time Date=YMD Year=Basic Time=HMS Local-or-UTC=L",
+    b"DURATION": b"Basic=Interval Interval-type=D",
 }
 
 # "only as Basic with Proleptic or Negative with L5"
@@ -44,6 +47,11 @@ def has_time(settings):
     return settings[b"Basic"] in (b"Time", b"Date-Time")
 
 
+def is_interval(settings):
+    """Whether the value is a duration."""
+    return settings[b"Basic"] == b"Interval"
+
+
 def read_pair(text):
     """One of the "`Property=Setting` pairs"; None when it is unreadable, unknown or not in the base."""
     name, _, setting = text.partition(b"=")
@@ -53,11 +61,12 @@ def read_pair(text):
 
 
 def is_complete(settings):
-    """"Always present", and "Both are present exactly when the value has" a date, or a time."""
+    """"Always present", and "Both are present exactly when the value has" a date, or a time; Interval-type is so for a
+    duration."""
     if b"Basic" not in settings:
         return False
-    date, time = has_date(settings), has_time(settings)
-    present = {b"Date": date, b"Year": date, b"Time": time, b"Local-or-UTC": time}
+    date, time, interval = has_date(settings), has_time(settings), is_interval(settings)
+    present = {b"Date": date, b"Year": date, b"Time": time, b"Local-or-UTC": time, b"Interval-type": interval}
     return all((name in settings) == expected for name, expected in present.items())
 
 
@@ -119,6 +128,7 @@ def make_type(lists, name, limits):
         time=word(time),
         digits=digits,
         zone=word(settings.get(b"Local-or-UTC")),
+        interval=word(settings.get(b"Interval-type")),
         name=word(name),
         window=limits.window,
         no_hour_24=limits.no_hour_24,
@@ -149,13 +159,15 @@ def years_are_alike(a, b):
 
 
 def same_rows(a, b):
-    """"Two types select the same rows when they have the same Basic; the same Date setting", and so on."""
+    """"Two types select the same rows when they have the same Basic; the same Date setting", and so on; durations have
+    "row 37 as one row"."""
     return (
         a.basic == b.basic
         and a.date == b.date
         and years_are_alike(a, b)
         and a.time == b.time
         and a.zone == b.zone
+        and a.interval == b.interval
     )
 
 

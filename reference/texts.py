@@ -3,10 +3,12 @@
 from collections import namedtuple
 
 import gregorian
+from durations import canonical, duration_text, read_duration
+from octets import NotOfTheForm, Octets
 from settings import is_refused, read_type
 
-# "A value is a date, a time, or a date with a time": what it lacks is None
-Value = namedtuple("Value", "date time")
+# "A value is a date, a time, or a date with a time", or a canonical duration: what it lacks is None
+Value = namedtuple("Value", "date time duration")
 Date = namedtuple("Date", "form year fields")
 
 # fields are the hours, minutes and seconds that the form has; difference is there with LD
@@ -14,10 +16,9 @@ Time = namedtuple("Time", "fields fraction zone difference")
 Fraction = namedtuple("Fraction", "number digits")
 Difference = namedtuple("Difference", "sign hours minutes")
 
-# what a text shows and its canonical text doesn't: a comma, and a difference's minutes when 0
-Spelling = namedtuple("Spelling", "comma zero_minutes")
+# what a text shows and its canonical text doesn't: a comma, a difference's minutes when 0, and zero components
+Spelling = namedtuple("Spelling", "comma zero_minutes zero_components")
 
-DIGITS = b"0123456789"
 SIGNS = b"+-"
 
 # what stands after the year: "`2006`, `2006-06`, `2006-06-13`, `2006-164`, `2006-W24`, `2006-W24-2`"
@@ -42,52 +43,6 @@ YEAR_RANGES = (
     ("L5", 10000, 99999),
     ("L5", -99999, -10000),
 )
-
-
-class NotOfTheForm(Exception):
-    """"the text or the DER contents are not of the type's form"."""
-
-
-class Octets:
-    """A text, and the place up to which it is read."""
-
-    def __init__(self, text):
-        self.text = text
-        self.place = 0
-
-    def next_is(self, octets):
-        """Whether one of these octets comes next."""
-        return self.place < len(self.text) and self.text[self.place] in octets
-
-    def take(self, octets):
-        """Reads exactly these octets."""
-        end = self.place + len(octets)
-        if self.text[self.place:end] != octets:
-            raise NotOfTheForm
-        self.place = end
-
-    def take_one(self, octets):
-        """Reads one of these octets."""
-        if not self.next_is(octets):
-            raise NotOfTheForm
-        self.place += 1
-        return self.text[self.place - 1:self.place]
-
-    def take_digits(self, count):
-        """Reads a field of exactly so many digits; "a field of the right digit count is of the form at any number"."""
-        return int(b"".join(self.take_one(DIGITS) for _ in range(count)))
-
-    def count_digits(self):
-        """How many digits come next."""
-        end = self.place
-        while end < len(self.text) and self.text[end] in DIGITS:
-            end += 1
-        return end - self.place
-
-    def take_end(self):
-        """Nothing may be left."""
-        if self.place != len(self.text):
-            raise NotOfTheForm
 
 
 def read_year(octets):
@@ -151,12 +106,20 @@ def read_time(octets, t):
         octets.take(b"Z")
     if t.zone == "LD":
         difference, zero_minutes = read_difference(octets)
-    return Time(tuple(fields), fraction, t.zone, difference), Spelling(comma, zero_minutes)
+    return Time(tuple(fields), fraction, t.zone, difference), Spelling(comma, zero_minutes, False)
+
+
+def read_interval(octets):
+    """A duration without its zero components; and whether it had any, or a comma."""
+    duration, comma = read_duration(octets)
+    return canonical(duration), Spelling(comma, False, canonical(duration) != duration)
 
 
 def read_value(octets, t):
     """The whole text at the type's form; "A date-time has `T` between"."""
-    date, time, spelling = None, None, Spelling(False, False)
+    date, time, duration, spelling = None, None, None, Spelling(False, False, False)
+    if t.interval:
+        duration, spelling = read_interval(octets)
     if t.date:
         date = read_date(octets, t.date)
     if t.date and t.time:
@@ -164,7 +127,7 @@ def read_value(octets, t):
     if t.time:
         time, spelling = read_time(octets, t)
     octets.take_end()
-    return Value(date, time), spelling
+    return Value(date, time, duration), spelling
 
 
 def read_text(t, text):
@@ -198,7 +161,7 @@ def time_of_day_exists(time):
 
 
 def value_exists(value):
-    """The contrary of "no such date, time or difference"."""
+    """The contrary of "no such date, time or difference"; every duration exists."""
     if value.date and not date_exists(value.date):
         return False
     if value.time and not time_of_day_exists(value.time):
@@ -252,7 +215,10 @@ def time_text(time):
 
 
 def canonical_text(value):
-    """"Canonical text (X.690 11.9): full stop for comma; the difference's minutes dropped when 0"."""
+    """"Canonical text (X.690 11.9): full stop for comma; the difference's minutes dropped when 0"; a duration has "no
+    zero components except the least significant one present"."""
+    if value.duration:
+        return duration_text(value.duration)
     parts = []
     if value.date:
         parts.append(date_text(value.date))

@@ -9,6 +9,8 @@ the first and for the second type. Any other line has the reply `?`.
 import itertools
 import sys
 
+import duration_texts
+from duration_texts import LIST, OTHER_LIST
 from settings import Limits, NO_LIMITS, fraction_digits, is_refused, read_type, same_rows
 from texts import judge
 
@@ -487,7 +489,7 @@ def unknown_settings():
 
 
 def other_types_of_x_680():
-    """Centuries, intervals and other notations of X.680: "all their settings are refusal 1"."""
+    """Centuries, intervals and other notations of X.680: "all their settings are refusal 1", but for durations."""
     yield from (
         b"Basic=Date Date=C Year=Basic", b"Basic=Date Date=C Year=Basic|Basic=Date Date=C Year=Proleptic",
         b"Basic=Date Date=C Year=Negative|Basic=Date Date=C Year=L5", b"Date=C Year=Basic|Date=C Year=Proleptic",
@@ -680,6 +682,57 @@ def fields_of_rows():
     )
 
 
+def durations():
+    """Texts of durations, and others, under the types of durations."""
+    for texts in (duration_texts.good_texts(), duration_texts.wrong_texts()):
+        yield from (line(b"0", type_text, text) for type_text, text in duration_texts.with_types(texts))
+
+
+def changed_durations():
+    """Texts of durations with one octet less, another or more."""
+    others = [bytes([octet]) for octet in b"0YMWDTHS.-"]
+    for type_text, text in ((duration_texts.NAME, b"P1Y6M"), (LIST, b"PT10M0,5S")):
+        for changed in itertools.chain(deletions(text), replacements(text, others)):
+            yield line(b"0", type_text, changed)
+    for changed in insertions(b"P1YT10S", others):
+        yield line(b"0", duration_texts.NAME, changed)
+
+
+def types_of_durations():
+    """Types near those of durations, and these with one octet less or another."""
+    for k, type_text in enumerate(duration_texts.other_types()):
+        yield line(b"0", type_text, (b"P1Y6M", b"2006", b"", b"P5W")[k % 4])
+    for type_text in (duration_texts.NAME, LIST):
+        for changed in itertools.chain(deletions(type_text), replacements(type_text, [])):
+            yield line(b"0", changed, b"P1Y6M")
+
+
+def durations_and_points():
+    """Texts of durations under the types of dates and times, and the other way round."""
+    for k, (type_text, text) in enumerate(forms()):
+        yield line(b"0", type_text, duration_texts.EXAMPLES[k % 6])
+        yield line(b"0", (duration_texts.NAME, LIST)[k % 2], text)
+
+
+def limits_on_durations():
+    """Each limit on a duration, which has no place for any, whatever the text is; and on two lists."""
+    types = (duration_texts.NAME, LIST, LIST + b"|" + date_type(b"Y", b"Basic"), time_type(b"H", b"L") + b"|" + LIST)
+    for limits, type_text, text in itertools.product(sorted(MENU), types, (b"P1Y6M", b"x")):
+        yield line(limits, type_text, text)
+
+
+def rows_of_durations():
+    """Lines that compare the types of durations with each other and with others, also under limits."""
+    types = (duration_texts.NAME, LIST, OTHER_LIST)
+    others = (*NAMES, date_type(b"Y", b"L5"), time_type(b"HMSF3", b"L"), b"Basic=Interval Interval-type=SE", b"")
+    yield from (line(b"=", first, second) for first, second in itertools.product(types, types))
+    for k, other in enumerate(others):
+        yield from (line(b"=", types[k % 3], other), line(b"=", other, types[(k + 1) % 3]))
+    yield from (line(b"=", LIST + b"|" + other, LIST) for other in (OTHER_LIST, date_type(b"Y", b"Basic")))
+    for limits in (b"=00", b"=01", b"=10", b"=08", b"=80", b"=99"):
+        yield from (line(limits, duration_texts.NAME, LIST), line(limits, LIST, b"DATE-TIME"))
+
+
 def last_line():
     """The line without a newline at its end."""
     first, second = (date_time_type(b"YM", years, b"HF9", b"Z") for years in ((b"Basic",), (b"Proleptic",)))
@@ -690,7 +743,8 @@ SECTIONS = (
     checked_values, good_dates, good_times, good_date_times, date_boundaries, month_boundaries, week_boundaries,
     time_boundaries, fractions_at_hour_24, differences, year_shapes, years_in_windows, cross_table, changed_texts,
     changed_types, every_octet, long_texts, long_types, limits_and_places, refused_types, pairs_of_lists, all_orders, rows,
-    other_lines, last_second, limited_rows, refused_rows, fields_of_rows, last_line,
+    other_lines, last_second, limited_rows, refused_rows, fields_of_rows, durations, changed_durations,
+    types_of_durations, durations_and_points, limits_on_durations, rows_of_durations, last_line,
 )
 
 

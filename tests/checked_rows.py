@@ -1,6 +1,6 @@
 """Compares each row of the proved tables with the independent reference: the calendar's years and dates, the
-texts, settings lists, the types and their rows, the texts under types, fields, the rows of Table 2, elements, unaligned PER, DER
-and the lines. Prints the first row that differs and exits 1, or prints nothing."""
+texts, settings lists, the types and their rows, the texts under types, fields, the rows of Table 2, durations, elements, unaligned
+PER, DER and the lines. Prints the first row that differs and exits 1, or prints nothing."""
 
 import re
 import sys
@@ -10,6 +10,7 @@ ROOT = Path(__file__).resolve().parent.parent
 sys.path.insert(0, str(ROOT / "reference"))
 import convert_lines  # noqa: E402
 import der  # noqa: E402
+import durations  # noqa: E402
 import gregorian  # noqa: E402
 import per  # noqa: E402
 import settings  # noqa: E402
@@ -32,7 +33,7 @@ TIME_VALUE = re.compile(
 )
 
 LISTS = ROOT / "crates/lists/proofs/Laws/Checked.antt"
-LIST = re.compile(r'^ +list "([^"]*)" (\d+) (\d+) (\d+) (\d+) (\d+) ∷', re.M)
+LIST = re.compile(r'^ +list "([^"]*)" (\d+) (\d+) (\d+) (\d+) (\d+) (\d+) ∷', re.M)
 OCTETS = re.compile(r'^ +octets "([^"]*)" \(((?:\d+ ∷ )+)\[\]\) refl ∷', re.M)
 
 TYPES = ROOT / "crates/type_texts/proofs/Laws/CheckedTypes.antt"
@@ -89,12 +90,22 @@ YEAR_SETTINGS = {
     "negative": frozenset({"Negative"}), "five": frozenset({"L5"}), "signed": YEAR_ROWS["AnyYear"],
 }
 
+DURATIONS = ROOT / "crates/durations/proofs/Laws/Checked.antt"
+SPELLED_DURATION = re.compile(r'^ +value "([^"]*)"\s+"([^"]*)"\s+"(\w+)" (\d+) ∷', re.M)
+NO_DURATION_TEXT = re.compile(rf"^ +refused {QUOTED} ∷", re.M)
+DURATION_OCTETS = re.compile(r'^ +octets "(\w*)" (\d) ∷', re.M)
+
 ELEMENTS = ROOT / "crates/der_elements/proofs/Laws/Checked.antt"
 DATE_ELEMENT = re.compile(rf'^ +(date|looseDate) Name\.(\w+) {A_DATE} "(\w+)" ∷', re.M)
 TIME_ELEMENT = re.compile(rf'^ +(time|looseTime) Name\.(\w+) {A_TIME} "(\w+)" ∷', re.M)
 BOTH_ELEMENT = re.compile(rf'^ +(both|looseBoth) Name\.(\w+) {A_DATE} {A_TIME} "(\w+)" ∷', re.M)
-NO_ELEMENT = re.compile(r'^ +no(Date|Time|Both) Name\.(\w+) "(\w*)" ∷', re.M)
-NAMED = {"Listed": None, "Date": "DATE", "TimeOfDay": "TIME-OF-DAY", "DateTime": "DATE-TIME"}
+NO_ELEMENT = re.compile(r'^ +no(Date|Time|Both|Duration) Name\.(\w+) "(\w*)" ∷', re.M)
+DURATION_ELEMENT = re.compile(r'^ +(duration|looseDuration) Name\.(\w+) \(of((?: \d+){10})\)\s+"(\w+)" ∷', re.M)
+NAMED = {"Listed": None, "Date": "DATE", "TimeOfDay": "TIME-OF-DAY", "DateTime": "DATE-TIME", "Duration": "DURATION"}
+ELEMENT_TYPES = {
+    "Date": settings.read_type(b"DATE"), "Time": settings.read_type(b"TIME-OF-DAY"), "Both": settings.read_type(b"DATE-TIME"),
+    "Duration": settings.read_type(b"DURATION"),
+}
 
 CODINGS = ROOT / "crates/exchanges/proofs/Laws/Checked.antt"
 VALUE = re.compile(r'^ +value "([^"]*)" "([^"]*)" (\d) "([^"]*)" (\d+) "([^"]*)" ∷', re.M)
@@ -107,11 +118,18 @@ CODING_LIMITS = {
     "from2000": settings.Limits((2000, 2010), False),
     "noHour24": settings.Limits(None, True),
 }
-DECODERS = {"per": per.decode, "der": der.decode}
-ROOM = 64
+CODERS = {"per": per, "der": der}
+
+# room for each result: a duration's text has up to 72 octets, and its element 75
+ROOM = 128
+
+DURATION_CODINGS = ROOT / "crates/exchanges/proofs/Laws/CheckedDurations.antt"
+DURATION_VALUE = re.compile(r'^ +value "([^"]*)"\s+"([^"]*)"\s+"([^"]*)"\s+"(\w+)" (\d+)\s+"(\w+)" ∷', re.M)
+REFUSES = re.compile(rf'^ +refuses "([^"]*)" (\w+) {QUOTED} (\d) ∷', re.M)
+READ_UNDER = re.compile(r'^ +(per|der)Read "([^"]*)" "([^"]*)" "([^"]*)" (\d) "([^"]*)" (\d+) ∷', re.M)
 
 LINES = ROOT / "crates/line_replies/proofs/Laws/Checked.antt"
-LINE = re.compile(r'^ +line "([^"]*)" (\d+) "([^"]*)" ∷', re.M)
+LINE = re.compile(r'^ +line "([^"]*)" (\d+)\s+"([^"]*)" ∷', re.M)
 
 
 def rows(table, *patterns):
@@ -185,7 +203,7 @@ def check_shown():
         (date, dated), (time, timed) = shown_date(row), shown_time(row)
         basic = "-".join(name for name, part in (("Date", date), ("Time", time)) if part)
         t = settings.read_type(f"Basic={basic}{dated}{timed}".encode())
-        value, expected = texts.Value(date, time), texts.Spelling(*(each == "true" for each in spelling))
+        value, expected = texts.Value(date, time, None), texts.Spelling(*(each == "true" for each in spelling), False)
         expect(SHOWN_TEXTS, text, (value, expected), texts.read_text(t, text.encode()))
         if not any(expected):
             expect(SHOWN_TEXTS, text, text.encode(), texts.canonical_text(value))
@@ -249,7 +267,7 @@ def time_exists(fields, digits, fraction, zone, difference=None):
     if digits > 9 or fraction >= 10**digits:
         return False
     time = texts.Time(fields, texts.Fraction(fraction, digits) if digits else None, zone, difference)
-    return texts.value_exists(texts.Value(None, time))
+    return texts.value_exists(texts.Value(None, time, None))
 
 
 def check_times():
@@ -310,7 +328,7 @@ def row_time(fields, digits, fraction, zone):
 def row_type(year_row=None, form=None, clock=None, digits="0", zone=None):
     """A type with what Table 2 looks at."""
     time = clock + "F" if clock and digits != "0" else clock
-    return settings.Type(None, form, YEAR_ROWS.get(year_row), time, int(digits), zone, None, None, False)
+    return settings.Type(None, form, YEAR_ROWS.get(year_row), time, int(digits), zone, None, None, None, False)
 
 
 def check_row(t, value, octets, said, loose):
@@ -325,16 +343,16 @@ def check_rows():
     """Values of each row of Table 2, some under a type, loose spellings, and octets that give nothing."""
     dated, timed, both, typed, no_date, no_time = rows(TABLE_2, DATED, TIMED, BOTH, TYPED, NO_DATE, NO_TIME)
     for kind, years, form, year, fields, *coding in dated:
-        value = texts.Value(row_date(form, year, fields), None)
+        value = texts.Value(row_date(form, year, fields), None, None)
         check_row(row_type(years, form), value, *coding, kind == "looseDate")
     for kind, clock, *time, octets, count in timed:
-        value = texts.Value(None, row_time(*time))
+        value = texts.Value(None, row_time(*time), None)
         check_row(row_type(None, None, clock, time[1], value.time.zone), value, octets, count, kind == "looseTime")
     for years, form, year, fields, clock, *time, octets, count in both:
-        value = texts.Value(row_date(form, year, fields), row_time(*time))
+        value = texts.Value(row_date(form, year, fields), row_time(*time), None)
         check_row(row_type(years, form, clock, time[1], value.time.zone), value, octets, count, False)
     for years, form, year, fields, clock, *time, octets, count in typed:
-        value = texts.Value(row_date(form, year, fields), row_time(*time) if clock else None)
+        value = texts.Value(row_date(form, year, fields), row_time(*time) if clock else None, None)
         t = row_type(None, form, clock or None, time[1] or "0", value.time.zone if clock else None)
         check_row(t._replace(years=YEAR_SETTINGS[years]), value, octets, count, False)
     for years, form, octets in no_date:
@@ -342,6 +360,27 @@ def check_rows():
     for clock, digits, zone, octets in no_time:
         t = row_type(None, None, clock, digits, zone)
         expect(TABLE_2, f"{clock} {octets}", None, per.read_octets(t, bytes.fromhex(octets)))
+
+
+def check_durations():
+    """Durations from any spelling to the canonical text, PER and back; texts that are refused; and the number of octets."""
+    spelled, refused, numbered = rows(DURATIONS, SPELLED_DURATION, NO_DURATION_TEXT, DURATION_OCTETS)
+    for text, canonical, octets, bits in spelled:
+        check_both_ways(DURATIONS, per, "DURATION", text, "0", octets, bits, canonical)
+    for text in refused:
+        judged = texts.judge(b"DURATION", settings.NO_LIMITS, unquoted(text))
+        expect(DURATIONS, text, 3, judged[0])
+    for octets, number in numbered:
+        found = per.decode(b"DURATION", settings.NO_LIMITS, bytes.fromhex(octets), ROOM)
+        expect(DURATIONS, octets, int(number), found[0])
+
+
+def element_duration(fields):
+    """A duration of the table of elements: its last place, its numbers from years to seconds, its fraction's digits and value."""
+    last, *numbers, digits, fraction = map(int, fields.split())
+    named = enumerate(zip(durations.ROOTS, numbers))
+    components = tuple(durations.Component(*each) for place, each in named if each[1] or place == last)
+    return durations.Duration(components, durations.FractionalPart(digits, fraction) if digits else None)
 
 
 def check_element(kind, name, t, value, octets):
@@ -353,46 +392,70 @@ def check_element(kind, name, t, value, octets):
 
 def check_elements():
     """Elements of each tag, those that are read and not written, and octets that give nothing at a name's form."""
-    dates, times, both, unreadable = rows(ELEMENTS, DATE_ELEMENT, TIME_ELEMENT, BOTH_ELEMENT, NO_ELEMENT)
+    kinds = DATE_ELEMENT, TIME_ELEMENT, BOTH_ELEMENT, DURATION_ELEMENT, NO_ELEMENT
+    dates, times, both, lasting, unreadable = rows(ELEMENTS, *kinds)
     for kind, name, form, year, fields, octets in dates:
-        check_element(kind, name, row_type(None, form), texts.Value(row_date(form, year, fields), None), octets)
+        check_element(kind, name, row_type(None, form), texts.Value(row_date(form, year, fields), None, None), octets)
     for kind, name, clock, *time, octets in times:
-        value = texts.Value(None, row_time(*time))
+        value = texts.Value(None, row_time(*time), None)
         check_element(kind, name, row_type(None, None, clock, time[1], value.time.zone), value, octets)
     for kind, name, form, year, fields, clock, *time, octets in both:
-        value = texts.Value(row_date(form, year, fields), row_time(*time))
+        value = texts.Value(row_date(form, year, fields), row_time(*time), None)
         check_element(kind, name, row_type(None, form, clock, time[1], value.time.zone), value, octets)
+    for kind, name, fields, octets in lasting:
+        check_element(kind, name, ELEMENT_TYPES["Duration"], texts.Value(None, None, element_duration(fields)), octets)
     for form, name, octets in unreadable:
-        date, clock, zone = "YMD" if form != "Time" else None, *(("HMS", "L") if form != "Date" else (None, None))
-        t = row_type(None, date, clock, "0", zone)._replace(name=NAMED[name])
-        expect(ELEMENTS, f"{form} {octets}", None, der.read_octets(t, bytes.fromhex(octets)))
+        t = ELEMENT_TYPES[form]._replace(name=NAMED[name])
+        expect(ELEMENTS, f"{form} {name} {octets}", None, der.read_octets(t, bytes.fromhex(octets)))
 
 
-def check_both_ways(coding, type_text, text, number, octets, bits, canonical, limits=settings.NO_LIMITS):
+def check_both_ways(table, coding, type_text, text, number, octets, bits, canonical, limits=settings.NO_LIMITS):
     """What an encoder makes of a text, and after 0 what the decoder makes of its octets."""
     said = (int(number), bytes.fromhex(octets), int(bits))
     found = coding.encode(type_text.encode(), limits, text.encode(), ROOM)
-    expect(CODINGS, f"{type_text} {text}", said, found)
+    expect(table, f"{type_text} {text}", said, found)
     if number == "0":
         back = coding.decode(type_text.encode(), limits, bytes.fromhex(octets), ROOM)
-        expect(CODINGS, f"{type_text} {octets}", (0, canonical.encode(), int(bits)), back)
+        expect(table, f"{type_text} {octets}", (0, canonical.encode(), int(bits)), back)
+
+
+def check_causes(table, causes, limits_named):
+    """The number that decoding octets gives, with limits and so much room."""
+    for work, type_text, limits, octets, room, number in causes:
+        found = CODERS[work].decode(type_text.encode(), limits_named[limits], bytes.fromhex(octets), int(room))
+        expect(table, f"{work} {type_text} {limits} {octets} {room}", int(number), found[0])
 
 
 def check_codings():
     """Values in PER and in DER, and back; a value of each row, and some under limits; elements of each tag; and the number of each cause."""
     values, coded, limited, tagged, causes = rows(CODINGS, VALUE, CODED, CODED_UNDER, TAGGED, CAUSE)
     for type_text, text, number, octets, bits, element in values:
-        check_both_ways(per, type_text, text, number, octets, bits, text)
-        check_both_ways(der, type_text, text, number, element, "0", text)
+        check_both_ways(CODINGS, per, type_text, text, number, octets, bits, text)
+        check_both_ways(CODINGS, der, type_text, text, number, element, "0", text)
     for type_text, text, octets, bits in coded:
-        check_both_ways(per, type_text, text, "0", octets, bits, text)
+        check_both_ways(CODINGS, per, type_text, text, "0", octets, bits, text)
     for limits, type_text, text, number, octets, bits in limited:
-        check_both_ways(per, type_text, text, number, octets, bits, text, CODING_LIMITS[limits])
+        check_both_ways(CODINGS, per, type_text, text, number, octets, bits, text, CODING_LIMITS[limits])
     for type_text, text, number, element, canonical in tagged:
-        check_both_ways(der, type_text, text, number, element, "0", canonical)
-    for work, type_text, limits, octets, room, number in causes:
-        found = DECODERS[work](type_text.encode(), CODING_LIMITS[limits], bytes.fromhex(octets), int(room))
-        expect(CODINGS, f"{work} {type_text} {octets}", int(number), found[0])
+        check_both_ways(CODINGS, der, type_text, text, number, element, "0", canonical)
+    check_causes(CODINGS, causes, CODING_LIMITS)
+
+
+def check_duration_codings():
+    """Durations in PER and in DER, and back; texts and types that are refused; causes; and one type's octets under another."""
+    values, refused, causes, read = rows(DURATION_CODINGS, DURATION_VALUE, REFUSES, CAUSE, READ_UNDER)
+    for type_text, text, canonical, octets, bits, element in values:
+        check_both_ways(DURATION_CODINGS, per, type_text, text, "0", octets, bits, canonical)
+        check_both_ways(DURATION_CODINGS, der, type_text, text, "0", element, "0", canonical)
+    for type_text, limits, text, number in refused:
+        found = [coder.encode(type_text.encode(), LIMITS[limits], unquoted(text), ROOM) for coder in CODERS.values()]
+        expect(DURATION_CODINGS, f"{type_text} {limits} {text}", [(int(number), b"", 0)] * 2, found)
+    check_causes(DURATION_CODINGS, causes, LIMITS)
+    for work, writer, text, reader, number, given, bits in read:
+        sent, octets, _ = CODERS[work].encode(writer.encode(), settings.NO_LIMITS, text.encode(), ROOM)
+        found = CODERS[work].decode(reader.encode(), settings.NO_LIMITS, octets, ROOM)
+        said = 0, int(number), given.encode(), int(bits)
+        expect(DURATION_CODINGS, f"{work} {writer} {text} {reader}", said, (sent, *found))
 
 
 def check_lines():
@@ -413,6 +476,8 @@ if __name__ == "__main__":
     check_times()
     check_fields()
     check_rows()
+    check_durations()
     check_elements()
     check_codings()
+    check_duration_codings()
     check_lines()

@@ -19,8 +19,6 @@ PAGE = ROOT / "docs/promises/functions.md"
 NUMBERED = "a number for each case, as the definition has it; rows are compared by it, and the wrong programs of `same_rows` are of that"
 BY_NUMBER = "a case for each number, as the definition has it; `read_type` makes types by it, and has the wrong programs"
 EXCEPTIONS = {
-    "list_has_date": "one comparison, and what rests on it is tried: `missing_zone_taken`, `limit_without_place`",
-    "list_has_time": "one comparison, and what rests on it is tried: `missing_zone_taken`, `limit_without_place`",
     "year_of": "one case for each form, all alike; the year is tried where it is read, written and judged",
     "date_number": NUMBERED, "clock_number": NUMBERED, "zone_number": NUMBERED,
     "date_at": BY_NUMBER, "clock_at": BY_NUMBER, "zone_at": BY_NUMBER,

@@ -133,8 +133,20 @@ vectors_of_other_lists() {
     list 'Basic=Date Date=YWD Year=Basic' 2020-W53-7 2021-W52-7
 }
 
+# the same texts under the name, whose contents 8.24.5 leaves without P, and under the settings
+vectors_of_durations() {
+    set -- P1Y6M PT0.5S P1D P0M P1Y0M P0Y P0W P0D PT0H PT0M PT0S P5W P0.5W P10.25W P1.5Y P0.001M P7.1234D PT1.5H \
+        PT0.000M PT0.00S P29M P29M0D P29MT0S P29MT0.00H P29MT0.000S P29MT0.00M PT72H P2Y10M15DT10H20M30S \
+        P999999999Y PT999999999S P999999999.999999999W P999999999YT999999999.999999999S \
+        P999999999M999999999DT999999999H
+    vectors 34 '"P' DURATION "$@"
+    list 'Basic=Interval Interval-type=D' "$@"
+    list 'Interval-type=D Basic=Interval' P1YT1S PT1M P1M
+}
+
 vectors_of_names
 vectors_of_dates
 vectors_of_times
 vectors_of_date_times
 vectors_of_other_lists
+vectors_of_durations

@@ -1,13 +1,14 @@
 #!/usr/bin/env escript
 -mode(compile).
 %% Writes per.txt beside this script: one line TYPE;TEXT;HEX for each vector of unaligned PER.
-%% The types are those of DateTime.asn1, compiled into a temporary folder. A vector is a date, a time or both,
-%% as numbers. From these numbers come the value that is handed to Erlang's encoder, and the type and the text.
+%% The types are those of DateTime.asn1, compiled into a temporary folder. A vector is a date, a time or both, or a
+%% duration, as numbers. From these come the value that is handed to Erlang's encoder, and the type and the text.
 
 %% A date:  {Family, Form, Year, A, B}. Family is basic (Basic and Proleptic) or any (Negative and L5).
 %%          A and B are what follows the year in the form, or none.
 %% A time:  {Form, N, H, M, S, F, Zone}. N is the number of fraction digits, 0 without.
 %% A zone:  l, z, or {Sign, Hours, Minutes}.
+%% A duration: {duration, [{Name, Number}], Fraction}. Fraction is none, or {N, F} with N digits.
 
 main([]) ->
     Here = filename:dirname(filename:absname(escript:script_name())),
@@ -39,6 +40,10 @@ first_of_equals(Lines) ->
 
 %% The lines of one vector: under its settings list, and under its name where it has one.
 
+lines({duration, Components, Fraction}) ->
+    true = duration_exists(Components, Fraction),
+    Hex = encode('Row-37', duration_value(Components, Fraction)),
+    [lists:flatten([Type, $;, duration_text(Components, Fraction), $;, Hex]) || Type <- duration_types()];
 lines({Date, Time}) ->
     true = date_exists(Date) andalso time_exists(Time),
     Hex = encode(row(Date, Time), value(Date, Time)),
@@ -74,6 +79,18 @@ time_exists({Form, N, H, M, S, F, Zone}) ->
                     l -> true;
                     z -> true;
                     {Sign, DH, DM} -> in(DH, 0, 15) andalso in(DM, 0, 59) andalso (Sign =:= $+ orelse DH > 0)
+                end.
+
+%% A duration as X.690 11.9 d has it: of all components only the last one may be 0. Weeks stand alone.
+duration_exists(Components, Fraction) ->
+    {Names, Numbers} = lists:unzip(Components),
+    Names =/= [] andalso Names =:= [Name || Name <- components(), lists:member(Name, Names)]
+        andalso (Names =:= [weeks] orelse not lists:member(weeks, Names))
+        andalso lists:all(fun(X) -> in(X, 0, highest(9)) end, Numbers)
+        andalso not lists:member(0, lists:droplast(Numbers))
+        andalso case Fraction of
+                    none -> true;
+                    {N, F} -> in(N, 1, 9) andalso in(F, 0, highest(N))
                 end.
 
 in(X, Low, High) -> is_integer(X) andalso Low =< X andalso X =< High.
@@ -157,6 +174,10 @@ difference({Sign, H, M}) -> #{hours => signed(Sign, H), minutes => M}.
 signed($+, X) -> X;
 signed($-, X) -> -X.
 
+duration_value(Components, none) -> maps:from_list(Components);
+duration_value(Components, {N, F}) ->
+    maps:from_list([{'fractional-part', #{'number-of-digits' => N, 'fractional-value' => F}} | Components]).
+
 %% The type's text.
 
 types(Date, Time) ->
@@ -170,6 +191,8 @@ name(" Date=YMD Year=Basic", none) -> ["DATE"];
 name(none, " Time=HMS Local-or-UTC=L") -> ["TIME-OF-DAY"];
 name(" Date=YMD Year=Basic", " Time=HMS Local-or-UTC=L") -> ["DATE-TIME"];
 name(_, _) -> [].
+
+duration_types() -> ["Basic=Interval Interval-type=D", "DURATION"].
 
 date_settings(none) -> none;
 date_settings({_, Form, Y, _, _}) ->
@@ -212,12 +235,25 @@ zone_text(z) -> "Z";
 zone_text({Sign, H, 0}) -> [Sign, digits(2, H)];
 zone_text({Sign, H, M}) -> [Sign, digits(2, H), $:, digits(2, M)].
 
+duration_text(Components, Fraction) ->
+    {Dates, Times} = lists:partition(fun({Name, _}) -> place(Name, components()) < 4 end, Components),
+    Last = lists:last(Components),
+    Part = fun(C) when C =:= Last -> designation(C, Fraction);
+              (C) -> designation(C, none)
+           end,
+    [$P, lists:map(Part, Dates), [$T || Times =/= []], lists:map(Part, Times)].
+
+designation({Name, X}, none) -> [integer_to_list(X), designator(Name)];
+designation({Name, X}, {N, F}) -> [integer_to_list(X), $., digits(N, F), designator(Name)].
+
+designator(Name) -> lists:nth(place(Name, components()) + 1, "YMWDHMS").
+
 digits(Width, X) -> io_lib:format("~*..0b", [Width, X]).
 
-%% The vectors, {Date, Time} with none for what is lacking.
+%% The vectors, {Date, Time} with none for what is lacking, and the durations.
 
 vectors() ->
-    [{D, none} || D <- dates()] ++ [{none, T} || T <- times()] ++ date_times().
+    [{D, none} || D <- dates()] ++ [{none, T} || T <- times()] ++ date_times() ++ durations().
 
 families() -> [basic, any].
 forms() -> [y, ym, ymd, yd, yw, ywd].
@@ -314,6 +350,44 @@ zone("L", _) -> l;
 zone("Z", _) -> z;
 zone("LD", I) -> nth(I, differences()).
 
+%% The components in the order of 28 bis.6.1, and the highest number of each one's root.
+
+components() -> [years, months, weeks, days, hours, minutes, seconds].
+
+root(Name) -> lists:nth(place(Name, components()) + 1, [31, 15, 63, 31, 31, 63, 63]).
+
+%% Each component alone with numbers at the ends of its root and of each length of a free integer, and with a fraction;
+%% fractions at their ends; components together; and numbers and fractions of nine digits.
+durations() ->
+    [{duration, [{Name, X}], none} || Name <- components(),
+                                      X <- [0, 1, root(Name), root(Name) + 1, 127, 128, highest(9)]]
+        ++ [{duration, [{seconds, X}], none} || X <- [255, 256, 32767, 32768, 8388607, 8388608]]
+        ++ [{duration, [{Name, X}], Fraction} || Name <- components(),
+                                                 {X, Fraction} <- [{0, {1, 5}}, {7, {3, 999}}, {128, {4, 1000}}]]
+        ++ [{duration, [{seconds, 0}], {N, F}} || N <- [1, 3, 4, 9], F <- duration_fractions(N)]
+        ++ [{duration, [{hours, 1}], {N, 10}} || N <- [2, 5, 6, 7, 8]]
+        ++ [together(K) || K <- lists:seq(1, 63)]
+        ++ [{duration, [{years, 1}, {months, 6}], none},
+            {duration, [{years, 1}, {months, 0}], none},
+            {duration, [{months, 29}, {minutes, 0}], {2, 0}},
+            {duration, [{years, highest(9)}, {seconds, highest(9)}], {9, highest(9)}},
+            {duration, [{months, highest(9)}, {days, highest(9)}, {hours, 0}], {9, 0}},
+            {duration, [{weeks, highest(9)}], {9, 1}}].
+
+duration_fractions(N) ->
+    [F || F <- [0, 1, 512, 999, 1000, 32767, 32768, 8388607, 8388608], F < highest(N)] ++ [highest(N)].
+
+%% The components of the K-th choice of six, weeks left out; of three choices one ends in 0 and one has a fraction.
+together(K) ->
+    All = [{years, 2}, {months, 10}, {days, 15}, {hours, 10}, {minutes, 20}, {seconds, 30}],
+    Chosen = [C || {I, C} <- numbered(All), K band (1 bsl I) =/= 0],
+    {Name, _} = lists:last(Chosen),
+    case K rem 3 of
+        0 -> {duration, lists:droplast(Chosen) ++ [{Name, 0}], none};
+        1 -> {duration, Chosen, none};
+        2 -> {duration, Chosen, {2, K}}
+    end.
+
 %% The project's own examples of unaligned PER. Each must be among the lines, else nothing is written.
 checked() ->
     ["DATE;2006-06-13;0558",
@@ -330,4 +404,9 @@ checked() ->
      "Basic=Date Date=Y Year=Negative;-0128;0180",
      "Basic=Date Date=Y Year=Negative;-0129;02FF7F",
      "Basic=Date Date=Y Year=L5;+32767;027FFF",
-     "Basic=Date Date=Y Year=L5;+32768;03008000"].
+     "Basic=Date Date=Y Year=L5;+32768;03008000",
+     "DURATION;P1Y6M;C004C0",
+     "DURATION;PT0.5S;03000020",
+     "DURATION;P1D;1004",
+     "DURATION;P0M;4000",
+     "DURATION;P1Y0M;C00400"].

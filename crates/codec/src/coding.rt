@@ -1,24 +1,64 @@
 ghost use mathlib.Core.Path.{_≡_};
+ghost use mathlib.Core.Bool.{cond};
 ghost use Rattle.answers.specs.Outcomes.{outcomeOf, roomOf};
+ghost use Rattle.answers.specs.declared.refusals.Refusal.{Refusal};
+ghost use Rattle.types.specs.AnyTypes.{durationType, nameOf};
+ghost use Rattle.types.specs.declared.types.AnyType.{AnyType};
 ghost use Rattle.exchanges.specs.Coding.{answerOf, answerUnder, perEncode, perDecode, derEncode, derDecode};
 use answers::Outcome;
 use answers::Refusal;
 use exchanges::Entry;
 use settings::read_type;
 use types::Limits;
+use types::Name;
 use types::Type;
-use types::TypeRead;
+use types::TypeFound;
 
-// Puts what an entry point gives under a type at the front of the room, or refuses.
-fn answer_under(entry: Entry, t: Type, input: &[u8], room: &mut [u8]) -> Outcome
-    ensures { λ r. ⌜ r ≡ outcomeOf (answerUnder entry t (now (input .entry))) (now (room .entry)) ⌝ }
-    ensures { λ _. ⌜ now (room .exit) ≡ roomOf (answerUnder entry t (now (input .entry))) (now (room .entry)) ⌝ }
+// The name of a type of durations, or that its settings are listed.
+fn duration_name(listed: bool) -> Name
+    ensures { λ r. ⌜ r ≡ nameOf (durationType listed) ⌝ }
+{
+    if listed {
+        return Name::Listed;
+    }
+    Name::Duration
+}
+
+// The refusal where there is no type: readable lists that share no row, or what can't be read.
+fn no_type(rowless: bool) -> Refusal
+    ensures { λ r. ⌜ r ≡ cond rowless Refusal.Rows Refusal.Settings ⌝ }
+{
+    if rowless {
+        return Refusal::Rows;
+    }
+    Refusal::Settings
+}
+
+// Puts what an entry point gives under a point's type at the front of the room, or refuses.
+fn answer_point(entry: Entry, t: Type, input: &[u8], room: &mut [u8]) -> Outcome
+    ensures { λ r. ⌜ r ≡ outcomeOf (answerUnder entry (AnyType.Point t) (now (input .entry))) (now (room .entry)) ⌝ }
+    ensures { λ _. ⌜ now (room .exit) ≡ roomOf (answerUnder entry (AnyType.Point t) (now (input .entry))) (now (room .entry)) ⌝ }
 {
     match entry {
         Entry::PerEncode => per::encode(t, input, room),
         Entry::PerDecode => per::decode(t, input, room),
         Entry::DerEncode => der::encode(t, input, room),
         Entry::DerDecode => der::decode(t, input, room),
+    }
+}
+
+// Puts what an entry point gives under a type of durations at the front of the room, or refuses: under DURATION, or under
+// its settings as they are listed.
+fn answer_duration(entry: Entry, listed: bool, input: &[u8], room: &mut [u8]) -> Outcome
+    ensures { λ r. ⌜ r ≡ outcomeOf (answerUnder entry (durationType listed) (now (input .entry))) (now (room .entry)) ⌝ }
+    ensures { λ _. ⌜ now (room .exit) ≡ roomOf (answerUnder entry (durationType listed) (now (input .entry))) (now (room .entry)) ⌝ }
+{
+    let name = duration_name(listed);
+    match entry {
+        Entry::PerEncode => per::encode_duration(input, room),
+        Entry::PerDecode => per::decode_duration(input, room),
+        Entry::DerEncode => der::encode_duration(name, input, room),
+        Entry::DerDecode => der::decode_duration(name, input, room),
     }
 }
 
@@ -36,9 +76,9 @@ pub fn answer(
 {
     let read = read_type(settings, limits);
     match read {
-        TypeRead::Type(t) => answer_under(entry, t, input, room),
-        TypeRead::Unreadable => Outcome::refused(Refusal::Settings),
-        TypeRead::NoRow => Outcome::refused(Refusal::Rows),
+        TypeFound::Point(t) => answer_point(entry, t, input, room),
+        TypeFound::Duration(listed) => answer_duration(entry, listed, input, room),
+        TypeFound::NoType(rowless) => Outcome::refused(no_type(rowless)),
     }
 }
 

@@ -45,6 +45,7 @@ fn omits(name: Name, octet: u8) -> bool
         Name::Date => octet == b'-',
         Name::TimeOfDay => octet == b':',
         Name::DateTime => separates(octet),
+        Name::Duration => octet == b'P',
     }
 }
 

@@ -10,7 +10,7 @@ ghost use Rattle.texts.specs.Texts.{readOf};
 ghost use Rattle.types.specs.declared.types.Name.{Name};
 ghost use Rattle.held_values.specs.Encodings.{ofText};
 ghost use Rattle.der_elements.specs.Elements.{tagOf};
-ghost use Rattle.der_elements.specs.Readings.{allDigits, digitsOnly, separated, readContents, readLength, readElement};
+ghost use Rattle.der_elements.specs.Readings.{allDigits, contentsEnd, digitsOnly, separated, readContents, readLength, readElement};
 use crate::tags::tag_length;
 use crate::tags::tag_of;
 use octets::put_octets;
@@ -96,29 +96,42 @@ fn read_contents(name: Name, form: Form, contents: &[u8]) -> TextRead
         Name::Date => read_fields(form, b'-', 4, contents),
         Name::TimeOfDay => read_fields(form, b':', 2, contents),
         Name::DateTime => read_date_time(form, contents),
+        Name::Duration => TextRead::NotOfForm,
     }
+}
+
+// The place after the contents that a length tells of, or 0 where it is missing, above 127 or above the octets that
+// follow.
+pub(crate) fn contents_end(octets: &[u8]) -> usize
+    ensures { λ r. ⌜ r ≡ contentsEnd (now (octets .entry)) ⌝ }
+{
+    if octets.len() == 0 {
+        return 0;
+    }
+    let count = octets[0];
+    if 127 < count {
+        return 0;
+    }
+    let end = count as usize + 1;
+    if octets.len() < end {
+        return 0;
+    }
+    end
 }
 
 // Reads the length and the contents.
 fn read_length(name: Name, form: Form, octets: &[u8]) -> TextRead
     ensures { λ r. ⌜ ofText r ≡ readLength name form (now (octets .entry)) ⌝ }
 {
-    if octets.len() == 0 {
-        return TextRead::NotOfForm;
-    }
-    let count = octets[0];
-    if 127 < count {
-        return TextRead::NotOfForm;
-    }
-    let end = count as usize + 1;
-    if octets.len() < end {
+    let end = contents_end(octets);
+    if end == 0 {
         return TextRead::NotOfForm;
     }
     read_contents(name, form, &octets[1..end])
 }
 
 // Whether octets begin with the tag.
-fn has_tag(name: Name, octets: &[u8]) -> bool
+pub(crate) fn has_tag(name: Name, octets: &[u8]) -> bool
     ensures { λ r. ⌜ r ≡ eqList (take (length (tagOf name)) (now (octets .entry))) (tagOf name) ⌝ }
 {
     let tag = tag_of(name);

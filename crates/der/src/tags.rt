@@ -12,7 +12,7 @@ pub(crate) struct Tag {
 }
 
 // The tag of any settings list is 0E; those of the useful time types (X.680 34 bis.4) are 1F 1F for DATE, 1F 20 for
-// TIME-OF-DAY and 1F 21 for DATE-TIME.
+// TIME-OF-DAY, 1F 21 for DATE-TIME and 1F 22 for DURATION.
 pub(crate) fn tag_of(name: Name) -> Tag
     ensures { λ r. ⌜ (take (r .length) (r .octets) ≡ tagOf name) × (r .length ≡ length (tagOf name)) × (1 ≤ r .length) × (r .length ≤ 2) ⌝ }
 {
@@ -31,6 +31,10 @@ pub(crate) fn tag_of(name: Name) -> Tag
         },
         Name::DateTime => Tag {
             octets: [0x1F, 0x21],
+            length: 2,
+        },
+        Name::Duration => Tag {
+            octets: [0x1F, 0x22],
             length: 2,
         },
     }

@@ -3,3 +3,4 @@ pub mod Elements
 pub mod Readings
 pub mod Loose
 pub mod Der
+pub mod AnyDer

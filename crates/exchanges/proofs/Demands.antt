@@ -10,14 +10,16 @@ use lib.Dec.{eqb}
 use borrow.Author.Tests.{eq-eqb, ne-eqb}
 use Rattle.octets.specs.Found.{Found, found, nothing}
 use Rattle.octets.proofs.Laws.Cases.{both}
-use Rattle.answers.specs.Outcomes.{Answer, outcomeOf}
+use Rattle.answers.specs.Outcomes.{Answer, outcomeOf, refused}
 use Rattle.answers.specs.declared.refusals.Refusal.{Refusal}
-use Rattle.texts.specs.Texts.{readOf, render, textOf}
 use Rattle.texts.specs.declared.values.Value.{Value}
-use Rattle.types.specs.Types.{formOf, typeNumber, wellFormed, nameOf}
+use Rattle.types.specs.AnyTypes.{nameOf, wellFormed}
+use Rattle.types.specs.Types as Points
+use Rattle.types.specs.Types.{typeNumber}
+use Rattle.types.specs.declared.types.AnyType.{AnyType}
 use Rattle.types.specs.declared.types.Limits.{Limits}
 use Rattle.types.specs.declared.types.TypeRead.{TypeRead}
-use Rattle.types.specs.declared.types.«Type».{«Type» as Ty}
+use Rattle.types.proofs.Laws.Durations.{OfDurations, as-listed, named}
 use Rattle.type_texts.specs.TypeTexts.{typeOf}
 use Rattle.type_texts.proofs.Laws.WellFormed.{read-well-formed}
 use Rattle.held_values.specs.Admission.{admissionNumber, admitted, judged, judgementNumber}
@@ -25,22 +27,39 @@ use Rattle.held_values.specs.declared.admission.Admission.{Admission}
 use Rattle.held_values.specs.declared.admission.Judgement.{Judgement}
 use Rattle.rows.specs.Fields.{yearRowOf}
 use Rattle.rows.specs.Readings.{readOctets}
-use Rattle.rows.proofs.Laws.SameRows.{same-form, same-rows}
+use Rattle.rows.proofs.Laws.SameRows.{same-rows}
 use Rattle.unpacking.specs.Unpacked.{valueIn, valueNumber}
 use Rattle.kinds.specs.Kinds.{holds}
 use Rattle.kinds.specs.Lawful.{Holds}
 use Rattle.kinds.proofs.Laws.Coding as Coding
-use Rattle.held_values.specs.Encodings.{Encoding, encodedBy, ofText}
-use Rattle.held_values.proofs.Laws.Encodings.{admissionAnswer, answerWith, encoded-admitted, judged-as, noted}
-use Rattle.per.specs.Per.{countOf, encodingOf, inPer, per, perDecoded, perEncoded}
-use Rattle.per.proofs.Laws.Per.{per-lawful}
-use Rattle.der_elements.specs.Der.{der, derDecoded, derEncoded, inDer}
-use Rattle.der_elements.specs.Elements.{element, elementOf}
-use Rattle.der_elements.proofs.Laws.Der.{der-lawful, element-gives, one-tag}
+use Rattle.held_values.specs.Encodings.{Encoding}
+use Rattle.held_values.proofs.Laws.Encodings.{admissionAnswer, answerWith, encoded-admitted, judged-as}
+use Rattle.durations.specs.Answers.{durationIn, durationNumber}
+use Rattle.durations.specs.Readings.{durationInOctets}
+use Rattle.durations.specs.Texts.{readDuration}
+use Rattle.durations.specs.declared.Duration.{Duration}
+use Rattle.durations.proofs.Laws.Values.{canonical-again}
+use Rattle.any_values.specs.Encodings.{AnyEncoding, encodedBy}
+use Rattle.any_values.specs.Texts.{asPoint, formOf, readText, render, textOf}
+use Rattle.any_values.specs.declared.AnyForm.{AnyForm}
+use Rattle.any_values.specs.declared.AnyValue.{AnyValue}
+use Rattle.any_values.proofs.Laws.Encodings.{noted}
+use Rattle.per.specs.AnyPer.{countOf, encodingOf, inPer, per}
+use Rattle.per.specs.Per as PointsInPer
+use Rattle.per.proofs.Laws.AnyPer as InPer
+use Rattle.per.proofs.Laws.AnyPer.{per-lawful, same-form}
+use Rattle.der_elements.specs.AnyDer.{decodedDuration, der, elementOf, encodedDuration, inDer}
+use Rattle.der_elements.specs.Der as PointsInDer
+use Rattle.der_elements.specs.Elements.{element}
+use Rattle.der_elements.specs.Readings.{readDurationElement}
+use Rattle.der_elements.proofs.Laws.AnyDer as InDer
+use Rattle.der_elements.proofs.Laws.AnyDer.{der-lawful, element-gives}
+use Rattle.der_elements.proofs.Laws.Der.{one-tag}
 use Rattle.exchanges.specs.Coding.{answerOf, answerUnder, derDecode, derEncode, perDecode, perEncode, underType}
 use Rattle.exchanges.specs.Limits.{limitsGiven, limitsNumber, underLimits, windowGiven}
 use Rattle.exchanges.specs.Demands.{answerInC, encodes, decodes, BitsTold, Demand1, Demand1InC, Demand2InDer, Demand2InPer, Demand3InDer, Demand3InPer}
-use Rattle.exchanges.specs.Demands.{LimitsFromC, LimitsTold, SevenNumbers, TextsTold, TypesTold, ValuesTold}
+use Rattle.exchanges.specs.Demands.{CanonicalTwice, DurationsTold, LimitsFromC, LimitsTold, PointsAsBefore, SevenNumbers, TextsTold, TypesTold}
+use Rattle.exchanges.specs.Demands.{ValuesTold}
 use Rattle.exchanges.specs.declared.entries.Entry.{Entry}
 use Rattle.exchanges.specs.declared.limits.LimitsRead.{LimitsRead}
 use Rattle.exchanges.proofs.Laws.Causes.{number-given}
@@ -89,7 +108,7 @@ demand-2-der settings limits t e =
 -- ---- demand 3
 
 -- a type that is read, and a value that it holds
-held : {R : Type 0} (E : Encoding R) (t : Ty) (v : Value) → wellFormed t ≡ true → holds (encodedBy E) t v ≡ true → Holds (encodedBy E) t v
+held : {R : Type 0} (E : AnyEncoding R) (t : AnyType) (v : AnyValue) → wellFormed t ≡ true → holds (encodedBy E) t v ≡ true → Holds (encodedBy E) t v
 held E t v f h = let b = both _ _ h in record { formed = f; real = b .0; inside = b .1 }
 
 pub demand-3-per : Demand3InPer
@@ -97,7 +116,7 @@ unfolding answerOf
 demand-3-per settings₁ limits₁ w e₁ settings₂ limits₂ r e₂ v h s room ok q n =
     let k = read-well-formed limits₁ settings₁ w e₁ in
     let f = same-form w r q n in
-    let o : per .readText (formOf r) (textOf v) ≡ some v = rw (← f) (per-lawful .text-own w v (held inPer w v k h)) in (
+    let o : readText (formOf r) (textOf v) ≡ some v = rw (← f) (per-lawful .text-own w v (held inPer w v k h)) in (
       o,
       meets-3 per per-lawful render (noted inPer) w r k (read-well-formed limits₂ settings₂ r e₂) (same-rows w r q) v h
           (λ z. absurd (let y : _≡_ {A = ℕ} 0 1 = cc in omega arith))
@@ -141,11 +160,17 @@ types-told e settings limits input room n = go (typeOf limits settings) n
     go TypeRead.Unreadable n = refl
     go TypeRead.NoRow n = refl
 
-module _ (settings : List ℕ) (limits : Limits) (t : Ty) (q : typeOf limits settings ≡ TypeRead.«Type» t) (input room : List ℕ) where
-  -- what is answered under the type that is read
+-- What is answered under the type that is read.
+module _ (settings : List ℕ) (limits : Limits) (t : AnyType) (q : typeOf limits settings ≡ TypeRead.«Type» t) (input room : List ℕ) where
   under-read : (e : Entry) (a : Answer) → answerUnder e t input ≡ a → outcomeOf (answerOf e settings limits input) room .number ≡ outcomeOf a room .number
   unfolding answerOf
   under-read e a c = rw (q, c)
+
+-- Under a point's type everything is answered as the kinds of points have it.
+pub points-as-before : PointsAsBefore
+unfolding answerOf
+points-as-before settings limits t q input =
+    (rw q (InPer.point-encodes t input), rw q (InPer.point-decodes t input), rw q (InDer.point-encodes t input), rw q (InDer.point-decodes t input))
 
 admission-told : {R : Type 0} (E : Encoding R) (row : R) (a : Admission) (room : List ℕ) → admissionNumber a ≢ 0
     → outcomeOf (admissionAnswer E row a) room .number ≡ admissionNumber a
@@ -153,21 +178,27 @@ unfolding outcomeOf
 admission-told E row (Admission.Value v) room n = absurd (n refl)
 admission-told E row (Admission.Refused why) room n = refl
 
+-- The number of an answer that is known.
+number-is : {a b : Answer} (room : List ℕ) → a ≡ b → outcomeOf a room .number ≡ outcomeOf b room .number
+number-is room e = ap (λ (x : Answer). outcomeOf x room .number) e
+
 pub texts-told : TextsTold
-texts-told settings limits t q text room n = (
-  under-read settings limits t q text room Entry.PerEncode _ (encoded-admitted inPer t text) ∙ admission-told inPer (inPer .row t) (admitted t text) room n,
-  under-read settings limits t q text room Entry.DerEncode _ (encoded-admitted inDer t text) ∙ admission-told inDer (inDer .row t) (admitted t text) room n,
-)
+texts-told settings limits t q text room n =
+    let p = points-as-before settings limits t q text in (
+      number-is room (p .0 ∙ encoded-admitted PointsInPer.inPer t text) ∙ admission-told PointsInPer.inPer (PointsInPer.inPer .row t) (admitted t text) room n,
+      number-is room (p .2 ∙ encoded-admitted PointsInDer.inDer t text) ∙ admission-told PointsInDer.inDer (PointsInDer.inDer .row t) (admitted t text) room n,
+    )
 
 pub bits-told : BitsTold
 unfolding outcomeOf
-bits-told settings limits t q octets room n = go (readOctets (yearRowOf t) (formOf t) octets) refl n
+bits-told settings limits t q octets room n = go (readOctets (yearRowOf t) (Points.formOf t) octets) refl n
   where
-    go : (g : Found Bool Value) → readOctets (yearRowOf t) (formOf t) octets ≡ g → valueNumber (valueIn g) ≢ 0
-        → outcomeOf (perDecode settings limits octets) room .number ≡ valueNumber (valueIn (readOctets (yearRowOf t) (formOf t) octets))
+    go : (g : Found Bool Value) → readOctets (yearRowOf t) (Points.formOf t) octets ≡ g → valueNumber (valueIn g) ≢ 0
+        → outcomeOf (perDecode settings limits octets) room .number ≡ valueNumber (valueIn (readOctets (yearRowOf t) (Points.formOf t) octets))
     go (found v rest) r n = absurd (n refl)
     go nothing r n =
-        under-read settings limits t q octets room Entry.PerDecode _ (Coding.decoded-none per t octets (read-well-formed limits settings t q) (rw r))
+        number-is room (points-as-before settings limits t q octets .1
+        ∙ Coding.decoded-none PointsInPer.per t octets (read-well-formed limits settings (AnyType.Point t) q) (rw r))
         ∙ sym (ap (λ (g : Found Bool Value). valueNumber (valueIn g)) r)
 
 judgement-told : (c : Answer) (j : Judgement) (room : List ℕ) → judgementNumber j ≢ 0 → outcomeOf (answerWith c j) room .number ≡ judgementNumber j
@@ -175,18 +206,65 @@ unfolding outcomeOf
 judgement-told c Judgement.Held room n = absurd (n refl)
 judgement-told c (Judgement.Refused why) room n = refl
 
+-- What is given as a point was given.
+given-point : (o : Option Value) (v : Value) → asPoint o ≡ some (AnyValue.Point v) → o ≡ some v
+given-point (some w) v e = let q : w ≡ v = cc in ap some q
+given-point none v e = absurd (let z : _≡_ {A = ℕ} 0 1 = cc in omega arith)
+
 pub values-told : ValuesTold
 values-told settings limits t q octets room v n = (
   λ r.
-      under-read settings limits t q octets room Entry.PerDecode _ (Coding.decoded-judged per t octets k v r ∙ judged-as inPer t v _)
+      number-is room (p .1 ∙ Coding.decoded-judged PointsInPer.per t octets k v (given-point _ v r) ∙ judged-as PointsInPer.inPer t v _)
       ∙ judgement-told _ (judged t v) room n,
   λ r.
-      under-read settings limits t q octets room Entry.DerDecode _ (Coding.decoded-judged der t octets k v r ∙ judged-as inDer t v _)
+      number-is room (p .3 ∙ Coding.decoded-judged PointsInDer.der t octets k v (given-point _ v r) ∙ judged-as PointsInDer.inDer t v _)
       ∙ judgement-told _ (judged t v) room n,
 )
   where
-    k : wellFormed t ≡ true
-    k = read-well-formed limits settings t q
+    k : Points.wellFormed t ≡ true
+    k = read-well-formed limits settings (AnyType.Point t) q
+
+    p : (perEncode settings limits octets ≡ PointsInPer.perEncoded t octets)
+        × (perDecode settings limits octets ≡ PointsInPer.perDecoded t octets)
+        × (derEncode settings limits octets ≡ PointsInDer.derEncoded t octets)
+        × (derDecode settings limits octets ≡ PointsInDer.derDecoded t octets)
+    p = points-as-before settings limits t q octets
+
+-- ---- durations
+
+of-durations : (t : AnyType) → formOf t ≡ AnyForm.Duration → OfDurations t
+of-durations (AnyType.Point t) e = absurd (let z : _≡_ {A = ℕ} 0 1 = cc in omega arith)
+of-durations AnyType.Duration e = named
+of-durations AnyType.ListedDuration e = as-listed
+
+-- Where nothing is read as a duration, what is answered has its number.
+none-told : (answer : Option Duration → Answer) (room : List ℕ) → answer none ≡ refused Refusal.Form
+    → (o : Option Duration) → durationNumber (durationIn o) ≢ 0 → outcomeOf (answer o) room .number ≡ durationNumber (durationIn o)
+unfolding outcomeOf
+none-told answer room e (some d) n = absurd (n refl)
+none-told answer room e none n = number-is room e
+
+pub durations-told : DurationsTold
+durations-told settings limits t q f input room =
+    let d = of-durations t f in (
+      λ n. (
+        under-read settings limits t q input room Entry.PerEncode _ (InPer.duration-encodes t d input)
+            ∙ none-told InPer.encodedDuration room refl (readDuration input) n,
+        under-read settings limits t q input room Entry.DerEncode _ (InDer.duration-encodes input t d)
+            ∙ none-told (encodedDuration (nameOf t)) room refl (readDuration input) n,
+      ),
+      λ n.
+          under-read settings limits t q input room Entry.PerDecode _ (InPer.duration-decodes t d input)
+          ∙ none-told (InPer.decodedDuration input) room refl (durationInOctets input) n,
+      λ n.
+          under-read settings limits t q input room Entry.DerDecode _ (InDer.duration-decodes input t d)
+          ∙ none-told (decodedDuration (nameOf t) input) room refl (readDurationElement (nameOf t) input) n,
+    )
+
+pub canonical-twice : CanonicalTwice
+canonical-twice text once e = canonical-again text once e
+
+-- ---- limits
 
 pub limits-told : LimitsTold
 unfolding limitsGiven outcomeOf

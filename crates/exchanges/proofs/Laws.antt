@@ -4,3 +4,4 @@ pub mod Causes
 pub mod Results
 pub mod CheckedTexts
 pub mod Checked
+pub mod CheckedDurations

@@ -9,11 +9,12 @@ use Prim.Native.Nat.{ℕ, _≤_, _<_}
 use lib.ListN.{length, take, drop}
 use Rattle.answers.specs.Outcomes.{Answer, outcomeOf, roomOf}
 use Rattle.calendar.specs.Years.{yearAt}
-use Rattle.texts.specs.Texts.{render, textOf}
-use Rattle.texts.specs.declared.values.Spelling.{Spelling}
 use Rattle.texts.specs.declared.values.Value.{Value}
+use Rattle.types.specs.AnyTypes.{fractionDigits, nameOf}
 use Rattle.types.specs.Rows.{sameRows}
-use Rattle.types.specs.Types.{formOf, fractionDigits, typeNumber, nameOf}
+use Rattle.types.specs.Types as Points
+use Rattle.types.specs.Types.{typeNumber}
+use Rattle.types.specs.declared.types.AnyType.{AnyType}
 use Rattle.types.specs.declared.types.Limits.{Limits}
 use Rattle.types.specs.declared.types.TypeRead.{TypeRead}
 use Rattle.types.specs.declared.types.Window.{Window}
@@ -22,12 +23,21 @@ use Rattle.type_texts.specs.TypeTexts.{typeOf}
 use Rattle.held_values.specs.Admission.{admissionNumber, admitted, judged, judgementNumber}
 use Rattle.fields.specs.Bits.{octetsOf}
 use Rattle.fields.specs.Fields.{bitCount, layout}
-use Rattle.rows.specs.Fields.{fieldsOf, yearRowOf}
+use Rattle.rows.specs.Fields.{yearRowOf, yearRowOfType}
 use Rattle.rows.specs.Readings.{readOctets}
 use Rattle.unpacking.specs.Unpacked.{valueIn, valueNumber}
 use Rattle.kinds.specs.Kinds.{Kind, holds}
-use Rattle.per.specs.Per.{per}
-use Rattle.der_elements.specs.Der.{der}
+use Rattle.durations.specs.Answers.{durationIn, durationNumber}
+use Rattle.durations.specs.Readings.{durationInOctets}
+use Rattle.durations.specs.Texts.{madeCanonical, readDuration}
+use Rattle.any_values.specs.Texts.{AnySpelling, formOf, render, textOf}
+use Rattle.any_values.specs.declared.AnyForm.{AnyForm}
+use Rattle.any_values.specs.declared.AnyValue.{AnyValue}
+use Rattle.per.specs.AnyPer.{fieldsOf, per}
+use Rattle.per.specs.Per as PointsInPer
+use Rattle.der_elements.specs.AnyDer.{der}
+use Rattle.der_elements.specs.Der as PointsInDer
+use Rattle.der_elements.specs.Readings.{readDurationElement}
 use Rattle.der_elements.specs.Elements.{contentsOf, tagOf}
 use Rattle.exchanges.specs.Coding.{answerOf, derDecode, derEncode, perDecode, perEncode}
 use Rattle.exchanges.specs.Limits.{limitsGiven, limitsNumber, underLimits}
@@ -121,13 +131,13 @@ pub record Demand2 {T F R A : Type 0} (K : Kind T F R A) {S : Type 0} (render : 
 
 -- "For each type in document 01": in PER the octets are those of the layout of the value's fields, and the bit count is the plain sum of their widths.
 abbrev pub Demand2InPer : Type 0
-Demand2InPer = (settings : List ℕ) (limits : Limits) (t : Ty) → typeOf limits settings ≡ TypeRead.«Type» t
+Demand2InPer = (settings : List ℕ) (limits : Limits) (t : AnyType) → typeOf limits settings ≡ TypeRead.«Type» t
     → Demand2 per render (perEncode settings limits) (perDecode settings limits) t
-    (λ v. octetsOf (layout (fieldsOf (yearRowOf t) v))) (λ v. bitCount (fieldsOf (yearRowOf t) v))
+    (λ v. octetsOf (layout (fieldsOf (yearRowOfType t) v))) (λ v. bitCount (fieldsOf (yearRowOfType t) v))
 
 -- In DER they are the tag, the length and the contents, and the bit count is 0.
 abbrev pub Demand2InDer : Type 0
-Demand2InDer = (settings : List ℕ) (limits : Limits) (t : Ty) → typeOf limits settings ≡ TypeRead.«Type» t
+Demand2InDer = (settings : List ℕ) (limits : Limits) (t : AnyType) → typeOf limits settings ≡ TypeRead.«Type» t
     → Demand2 der render (derEncode settings limits) (derDecode settings limits) t
     (λ v. tagOf (nameOf t) ++ length (contentsOf (nameOf t) (textOf v)) ∷ contentsOf (nameOf t) (textOf v)) (λ v. 0)
 
@@ -152,17 +162,17 @@ pub record Demand3 {T F R A : Type 0} (K : Kind T F R A) (written : Answer) (len
 -- any spelling, in any room that was enough. "In PER, let both types select the same rows of the standard's Table 2, for the date and for the time,
 -- and the same number of fraction digits." The text is then always of the form of the reader's type.
 abbrev pub Demand3InPer : Type 0
-Demand3InPer = (settings₁ : List ℕ) (limits₁ : Limits) (w : Ty) → typeOf limits₁ settings₁ ≡ TypeRead.«Type» w
-    → (settings₂ : List ℕ) (limits₂ : Limits) (r : Ty) → typeOf limits₂ settings₂ ≡ TypeRead.«Type» r
-    → (v : Value) → holds per w v ≡ true → (s : Spelling) (room : List ℕ) → outcomeOf (perEncode settings₁ limits₁ (render s v)) room .number ≡ 0
+Demand3InPer = (settings₁ : List ℕ) (limits₁ : Limits) (w : AnyType) → typeOf limits₁ settings₁ ≡ TypeRead.«Type» w
+    → (settings₂ : List ℕ) (limits₂ : Limits) (r : AnyType) → typeOf limits₂ settings₂ ≡ TypeRead.«Type» r
+    → (v : AnyValue) → holds per w v ≡ true → (s : AnySpelling) (room : List ℕ) → outcomeOf (perEncode settings₁ limits₁ (render s v)) room .number ≡ 0
     → sameRows w r ≡ true → fractionDigits w ≡ fractionDigits r
     → (per .readText (formOf r) (textOf v) ≡ some v) × Demand3 per (perEncode settings₁ limits₁ (render s v)) room (perDecode settings₂ limits₂) r v
 
 -- "In DER the same is true of any two types with one tag."
 abbrev pub Demand3InDer : Type 0
-Demand3InDer = (settings₁ : List ℕ) (limits₁ : Limits) (w : Ty) → typeOf limits₁ settings₁ ≡ TypeRead.«Type» w
-    → (settings₂ : List ℕ) (limits₂ : Limits) (r : Ty) → typeOf limits₂ settings₂ ≡ TypeRead.«Type» r
-    → (v : Value) → holds der w v ≡ true → (s : Spelling) (room : List ℕ) → outcomeOf (derEncode settings₁ limits₁ (render s v)) room .number ≡ 0
+Demand3InDer = (settings₁ : List ℕ) (limits₁ : Limits) (w : AnyType) → typeOf limits₁ settings₁ ≡ TypeRead.«Type» w
+    → (settings₂ : List ℕ) (limits₂ : Limits) (r : AnyType) → typeOf limits₂ settings₂ ≡ TypeRead.«Type» r
+    → (v : AnyValue) → holds der w v ≡ true → (s : AnySpelling) (room : List ℕ) → outcomeOf (derEncode settings₁ limits₁ (render s v)) room .number ≡ 0
     → tagOf (nameOf w) ≡ tagOf (nameOf r) → Demand3 der (derEncode settings₁ limits₁ (render s v)) room (derDecode settings₂ limits₂) r v
 
 -- ---- the seven numbers
@@ -182,28 +192,29 @@ resultAs K encodes t v = K .encoding (K .row t) v
 resultAs K decodes t v = K .textOf v
 
 -- That settings, limits and an input give a type and a value.
-pub record Gives {F R A : Type 0} (K : Kind Ty F R A) (d : Direction) (settings : List ℕ) (limits : Limits) (input : List ℕ) (t : Ty) (v : A) : Type 0 where
+pub record Gives {F R A : Type 0} (K : Kind AnyType F R A) (d : Direction) (settings : List ℕ) (limits : Limits) (input : List ℕ) (t : AnyType)
+    (v : A) : Type 0 where
   pub type-is : typeOf limits settings ≡ TypeRead.«Type» t
   pub value-is : readAs K d t input ≡ some v
 
 -- What each number is "given when", whatever else holds, in any kind of value; 0 is success.
-pub data Cause {F R A : Type 0} (K : Kind Ty F R A) (d : Direction) (settings : List ℕ) (limits : Limits) (input room : List ℕ) : ℕ → Type 0 where
+pub data Cause {F R A : Type 0} (K : Kind AnyType F R A) (d : Direction) (settings : List ℕ) (limits : Limits) (input room : List ℕ) : ℕ → Type 0 where
   -- "settings unreadable, unknown, missing, repeated or not in the base; a restriction where it has no place"
   one : typeOf limits settings ≡ TypeRead.Unreadable → Cause K d settings limits input room 1
   -- "two lists that don't make one row"
   two : typeOf limits settings ≡ TypeRead.NoRow → Cause K d settings limits input room 2
   -- "the text or the DER contents are not of the type's form; tag wrong; .. a fraction negative or of more than n digits"
-  three : (t : Ty) → typeOf limits settings ≡ TypeRead.«Type» t → readAs K d t input ≡ none → Cause K d settings limits input room 3
+  three : (t : AnyType) → typeOf limits settings ≡ TypeRead.«Type» t → readAs K d t input ≡ none → Cause K d settings limits input room 3
   -- "no such date, time or difference"
-  four : (t : Ty) (v : A) → Gives K d settings limits input t v → K .exists v ≡ false → Cause K d settings limits input room 4
+  four : (t : AnyType) (v : A) → Gives K d settings limits input t v → K .exists v ≡ false → Cause K d settings limits input room 4
   -- "not in the type: a year of no Year setting that the type names, year window, hour 24"
-  five : (t : Ty) (v : A) → Gives K d settings limits input t v → K .inType t v ≡ false → Cause K d settings limits input room 5
+  five : (t : AnyType) (v : A) → Gives K d settings limits input t v → K .inType t v ≡ false → Cause K d settings limits input room 5
   -- "decoding only: not what the encoder writes"
-  six : (t : Ty) (v : A) → Gives K d settings limits input t v → d ≡ decodes → input ≢ K .encoding (K .row t) v → Cause K d settings limits input room 6
+  six : (t : AnyType) (v : A) → Gives K d settings limits input t v → d ≡ decodes → input ≢ K .encoding (K .row t) v → Cause K d settings limits input room 6
   -- "the lent room is shorter than the result"
-  seven : (t : Ty) (v : A) → Gives K d settings limits input t v → length room < length (resultAs K d t v) → Cause K d settings limits input room 7
+  seven : (t : AnyType) (v : A) → Gives K d settings limits input t v → length room < length (resultAs K d t v) → Cause K d settings limits input room 7
   -- a value that the type holds, from what the encoder writes where it is octets, and room for the result
-  zero : (t : Ty) (v : A) → Gives K d settings limits input t v → holds K t v ≡ true → (d ≡ decodes → input ≡ K .encoding (K .row t) v)
+  zero : (t : AnyType) (v : A) → Gives K d settings limits input t v → holds K t v ≡ true → (d ≡ decodes → input ≡ K .encoding (K .row t) v)
       → length (resultAs K d t v) ≤ length room → Cause K d settings limits input room 0
 
 -- That a number is given exactly where its cause holds, and none of a lower number.
@@ -233,25 +244,39 @@ abbrev pub TypesTold : Type 0
 TypesTold = (e : Entry) (settings : List ℕ) (limits : Limits) (input room : List ℕ) → typeNumber (typeOf limits settings) ≢ 0
     → outcomeOf (answerOf e settings limits input) room .number ≡ typeNumber (typeOf limits settings)
 
--- Where the number of what a text gives under a type is not 0, it is the encoder's, in PER and in DER.
+-- Where the number of what a text gives under a point's type is not 0, it is the encoder's, in PER and in DER.
 abbrev pub TextsTold : Type 0
-TextsTold = (settings : List ℕ) (limits : Limits) (t : Ty) → typeOf limits settings ≡ TypeRead.«Type» t → (text room : List ℕ)
+TextsTold = (settings : List ℕ) (limits : Limits) (t : Ty) → typeOf limits settings ≡ TypeRead.«Type» (AnyType.Point t) → (text room : List ℕ)
     → admissionNumber (admitted t text) ≢ 0
     → (outcomeOf (perEncode settings limits text) room .number ≡ admissionNumber (admitted t text))
     × (outcomeOf (derEncode settings limits text) room .number ≡ admissionNumber (admitted t text))
 
--- Where the number of what is read from bits is not 0, it is the decoder's.
+-- Where the number of what is read from bits under a point's type is not 0, it is the decoder's.
 abbrev pub BitsTold : Type 0
-BitsTold = (settings : List ℕ) (limits : Limits) (t : Ty) → typeOf limits settings ≡ TypeRead.«Type» t → (octets room : List ℕ)
-    → valueNumber (valueIn (readOctets (yearRowOf t) (formOf t) octets)) ≢ 0
-    → outcomeOf (perDecode settings limits octets) room .number ≡ valueNumber (valueIn (readOctets (yearRowOf t) (formOf t) octets))
+BitsTold = (settings : List ℕ) (limits : Limits) (t : Ty) → typeOf limits settings ≡ TypeRead.«Type» (AnyType.Point t) → (octets room : List ℕ)
+    → valueNumber (valueIn (readOctets (yearRowOf t) (Points.formOf t) octets)) ≢ 0
+    → outcomeOf (perDecode settings limits octets) room .number ≡ valueNumber (valueIn (readOctets (yearRowOf t) (Points.formOf t) octets))
 
--- Where the number of what is judged of a value that octets give is not 0, it is the decoder's, in PER and in DER.
+-- Where the number of what is judged of a point that octets give is not 0, it is the decoder's, in PER and in DER.
 abbrev pub ValuesTold : Type 0
-ValuesTold = (settings : List ℕ) (limits : Limits) (t : Ty) → typeOf limits settings ≡ TypeRead.«Type» t → (octets room : List ℕ) (v : Value)
+ValuesTold = (settings : List ℕ) (limits : Limits) (t : Ty) → typeOf limits settings ≡ TypeRead.«Type» (AnyType.Point t) → (octets room : List ℕ) (v : Value)
     → judgementNumber (judged t v) ≢ 0
-    → (readAs per decodes t octets ≡ some v → outcomeOf (perDecode settings limits octets) room .number ≡ judgementNumber (judged t v))
-    × (readAs der decodes t octets ≡ some v → outcomeOf (derDecode settings limits octets) room .number ≡ judgementNumber (judged t v))
+    → (readAs per decodes (AnyType.Point t) octets ≡ some (AnyValue.Point v)
+    → outcomeOf (perDecode settings limits octets) room .number ≡ judgementNumber (judged t v))
+    × (readAs der decodes (AnyType.Point t) octets ≡ some (AnyValue.Point v)
+    → outcomeOf (derDecode settings limits octets) room .number ≡ judgementNumber (judged t v))
+
+-- Where the number of what is read as a duration, from a text, from bits or from an element, is not 0, it is the entry point's.
+abbrev pub DurationsTold : Type 0
+DurationsTold = (settings : List ℕ) (limits : Limits) (t : AnyType) → typeOf limits settings ≡ TypeRead.«Type» t → formOf t ≡ AnyForm.Duration
+    → (input room : List ℕ)
+    → (durationNumber (durationIn (readDuration input)) ≢ 0
+    → (outcomeOf (perEncode settings limits input) room .number ≡ durationNumber (durationIn (readDuration input)))
+    × (outcomeOf (derEncode settings limits input) room .number ≡ durationNumber (durationIn (readDuration input))))
+    × (durationNumber (durationIn (durationInOctets input)) ≢ 0
+    → outcomeOf (perDecode settings limits input) room .number ≡ durationNumber (durationIn (durationInOctets input)))
+    × (durationNumber (durationIn (readDurationElement (nameOf t) input)) ≢ 0
+    → outcomeOf (derDecode settings limits input) room .number ≡ durationNumber (durationIn (readDurationElement (nameOf t) input)))
 
 -- The number of limits that C gives is 0; where a count is among them, which has no place, it is 1, and so is the entry point's.
 abbrev pub LimitsTold : Type 0
@@ -259,3 +284,17 @@ LimitsTold = (e : Entry) (settings : List ℕ) (given : GivenLimits) (input room
     → (given .counts ≡ 0 → limitsNumber (limitsGiven given) ≡ 0)
     × (given .counts ≢ 0 → (limitsNumber (limitsGiven given) ≡ 1)
     × (outcomeOf (answerInC e settings given input) room .number ≡ limitsNumber (limitsGiven given)))
+
+-- ---- durations (#101)
+
+-- "Show that making canonical twice changes nothing more."
+abbrev pub CanonicalTwice : Type 0
+CanonicalTwice = (text once : List ℕ) → madeCanonical text ≡ some once → madeCanonical once ≡ some once
+
+-- What the entry points answer under a point's type, they answer as before: what the kinds of points say, which do not know durations.
+abbrev pub PointsAsBefore : Type 0
+PointsAsBefore = (settings : List ℕ) (limits : Limits) (t : Ty) → typeOf limits settings ≡ TypeRead.«Type» (AnyType.Point t) → (input : List ℕ)
+    → (perEncode settings limits input ≡ PointsInPer.perEncoded t input)
+    × (perDecode settings limits input ≡ PointsInPer.perDecoded t input)
+    × (derEncode settings limits input ≡ PointsInDer.derEncoded t input)
+    × (derDecode settings limits input ≡ PointsInDer.derDecoded t input)

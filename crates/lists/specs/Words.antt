@@ -35,9 +35,9 @@ Table t n = (ws : List String) × Has t n ws
 abbrev pub Place : List ℕ → ℕ → List ℕ → ℕ → Type 0
 Place t n l k = (ws : List String) → Has t n ws → k ≡ placeIn ws l
 
--- "`Basic`: Date, Time, Date-Time."
+-- "`Basic`: Date, Time, Date-Time", and "`Basic=Interval`" (#101).
 abbrev pub basicWords : List String
-basicWords = "Basic=Date" ∷ "Basic=Time" ∷ "Basic=Date-Time" ∷ []
+basicWords = "Basic=Date" ∷ "Basic=Time" ∷ "Basic=Date-Time" ∷ "Basic=Interval" ∷ []
 
 -- "`Date`: Y, YM, YMD, YD, YW, YWD."
 abbrev pub dateWords : List String
@@ -59,6 +59,10 @@ fractionWords = "Time=HF" ∷ "Time=HMF" ∷ "Time=HMSF" ∷ []
 abbrev pub zoneWords : List String
 zoneWords = "Local-or-UTC=L" ∷ "Local-or-UTC=Z" ∷ "Local-or-UTC=LD" ∷ []
 
+-- "`Interval-type=D`" (#101): the interval is given by its duration alone.
+abbrev pub intervalWords : List String
+intervalWords = "Interval-type=D" ∷ []
+
 -- The number of a Time setting with n digits, from that of its word; 0 stays 0.
 abbrev pub withDigits : ℕ → ℕ → ℕ
 withDigits n k = cond (eqb k 0) 0 (n * 10 + k)
@@ -74,7 +78,7 @@ fractionNumber l =
 abbrev pub firstNumber : ℕ → ℕ → ℕ
 firstNumber m n = cond (eqb m 0) n m
 
--- "`Property=Setting`": the property, 0 to 4 in the order of "Base settings", and the number of its setting, 0 where the text is none.
+-- "`Property=Setting`": the property, 0 to 4 in the order of "Base settings" and 5 for Interval-type, and the number of its setting, 0 where the text is none.
 abbrev pub pair : ℕ → ℕ → Pair
 pair p n = record { property = p; setting = n }
 
@@ -89,4 +93,5 @@ pairOf l =
     (firstOf (pair 1 (placeIn dateWords l))
     (firstOf (pair 2 (placeIn yearWords l))
     (firstOf (pair 3 (firstNumber (placeIn clockWords l) (fractionNumber l)))
-    (pair 4 (placeIn zoneWords l)))))
+    (firstOf (pair 4 (placeIn zoneWords l))
+    (pair 5 (placeIn intervalWords l))))))

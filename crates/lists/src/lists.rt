@@ -1,9 +1,10 @@
 ghost use mathlib.Core.Path.{_≡_};
 ghost use Prim.Native.Nat.{_<_};
 ghost use Rattle.octets.specs.Pieces.{splitOn};
-ghost use Rattle.lists.specs.Lists.{addPair, addPairs, complete, completed, datedList, listOf, noneYet, presentIf, settings, timedList};
+ghost use Rattle.lists.specs.Lists.{addPair, addPairs, complete, completed, datedList, intervalList, listOf, noneYet, presentIf, settings, timedList};
 use crate::words::BASIC;
 use crate::words::DATE;
+use crate::words::INTERVAL;
 use crate::words::Pair;
 use crate::words::TIME;
 use crate::words::YEAR;
@@ -11,27 +12,27 @@ use crate::words::ZONE;
 use crate::words::read_pair;
 use octets::find;
 
-// The settings of one list: for each property, in the order Basic, Date, Year, Time, Local-or-UTC, the number of its
-// setting, 0 where it is missing. A list that is refused is not readable.
+// The settings of one list: for each property, in the order Basic, Date, Year, Time, Local-or-UTC, Interval-type,
+// the number of its setting, 0 where it is missing. A list that is refused is not readable.
 pub struct Settings {
     pub readable: bool,
-    pub numbers: [u32; 5],
+    pub numbers: [u32; 6],
 }
 
 // A list before its first pair, and any list that is refused.
 const NONE_YET: Settings = Settings {
     readable: true,
-    numbers: [0, 0, 0, 0, 0],
+    numbers: [0, 0, 0, 0, 0, 0],
 };
 
 const REFUSED: Settings = Settings {
     readable: false,
-    numbers: [0, 0, 0, 0, 0],
+    numbers: [0, 0, 0, 0, 0, 0],
 };
 
 // One pair more.
 fn add(list: Settings, pair: Pair) -> Settings
-    requires { ⌜ pair .property < 5 ⌝ }
+    requires { ⌜ pair .property < 6 ⌝ }
     ensures { λ r. ⌜ r ≡ addPair list pair ⌝ }
 {
     let property = pair.property;
@@ -76,14 +77,27 @@ fn read_pairs(s: &[u8]) -> Settings
 pub fn list_has_date(list: Settings) -> bool
     ensures { λ r. ⌜ r ≡ datedList list ⌝ }
 {
-    list.numbers[BASIC] != 2
+    if list.numbers[BASIC] == 1 {
+        return true;
+    }
+    list.numbers[BASIC] == 3
 }
 
 // Whether a list has a time.
 pub fn list_has_time(list: Settings) -> bool
     ensures { λ r. ⌜ r ≡ timedList list ⌝ }
 {
-    list.numbers[BASIC] != 1
+    if list.numbers[BASIC] == 2 {
+        return true;
+    }
+    list.numbers[BASIC] == 3
+}
+
+// Whether a list is of an interval.
+fn list_has_interval(list: Settings) -> bool
+    ensures { λ r. ⌜ r ≡ intervalList list ⌝ }
+{
+    list.numbers[BASIC] == 4
 }
 
 // Whether a setting is there exactly if it is wanted.
@@ -114,7 +128,10 @@ fn is_complete(list: Settings) -> bool
     if !present_if(time, list.numbers[TIME]) {
         return false;
     }
-    present_if(time, list.numbers[ZONE])
+    if !present_if(time, list.numbers[ZONE]) {
+        return false;
+    }
+    present_if(list_has_interval(list), list.numbers[INTERVAL])
 }
 
 // The list that a text is.

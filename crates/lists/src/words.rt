@@ -13,8 +13,10 @@ pub const TIME: usize = 3;
 
 pub const ZONE: usize = 4;
 
+pub const INTERVAL: usize = 5;
+
 // The words of each property, each after its length.
-const BASIC_WORDS: [u8; 38] = *b"\x0ABasic=Date\x0ABasic=Time\x0FBasic=Date-Time";
+const BASIC_WORDS: [u8; 53] = *b"\x0ABasic=Date\x0ABasic=Time\x0FBasic=Date-Time\x0EBasic=Interval";
 
 const DATE_WORDS: [u8; 49] =
     *b"\x06Date=Y\x07Date=YM\x08Date=YMD\x07Date=YD\x07Date=YW\x08Date=YWD";
@@ -26,6 +28,8 @@ const CLOCK_WORDS: [u8; 24] = *b"\x06Time=H\x07Time=HM\x08Time=HMS";
 const FRACTION_WORDS: [u8; 27] = *b"\x07Time=HF\x08Time=HMF\x09Time=HMSF";
 
 const ZONE_WORDS: [u8; 46] = *b"\x0ELocal-or-UTC=L\x0ELocal-or-UTC=Z\x0FLocal-or-UTC=LD";
+
+const INTERVAL_WORDS: [u8; 16] = *b"\x0FInterval-type=D";
 
 // One pair of a list: the place of its property, and the number of its setting, 0 for none.
 pub struct Pair {
@@ -89,11 +93,11 @@ fn time_word(s: &[u8]) -> u32
 
 // A property with the number of its setting, or the pair of no setting where that is 0.
 fn pair_or_none(property: usize, setting: u32) -> Pair
-    ensures { λ r. ⌜ r ≡ firstOf (pair property setting) (pair 4 0) ⌝ }
+    ensures { λ r. ⌜ r ≡ firstOf (pair property setting) (pair 5 0) ⌝ }
 {
     if setting == 0 {
         return Pair {
-            property: ZONE,
+            property: INTERVAL,
             setting: 0,
         };
     }
@@ -106,13 +110,13 @@ pub fn read_pair(s: &[u8]) -> Pair
 {
     if s.len() == 0 {
         return Pair {
-            property: ZONE,
+            property: INTERVAL,
             setting: 0,
         };
     }
     let first = s[0];
     if first == b'B' {
-        return pair_or_none(BASIC, place_in(&BASIC_WORDS, 3, s));
+        return pair_or_none(BASIC, place_in(&BASIC_WORDS, 4, s));
     }
     if first == b'D' {
         return pair_or_none(DATE, place_in(&DATE_WORDS, 6, s));
@@ -123,8 +127,11 @@ pub fn read_pair(s: &[u8]) -> Pair
     if first == b'T' {
         return pair_or_none(TIME, time_word(s));
     }
+    if first == b'L' {
+        return pair_or_none(ZONE, place_in(&ZONE_WORDS, 3, s));
+    }
     Pair {
-        property: ZONE,
-        setting: place_in(&ZONE_WORDS, 3, s),
+        property: INTERVAL,
+        setting: place_in(&INTERVAL_WORDS, 1, s),
     }
 }

@@ -1,2 +1,3 @@
 -- What a reader must believe of unaligned PER.
 pub mod Per
+pub mod AnyPer

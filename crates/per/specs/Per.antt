@@ -1,8 +1,7 @@
 -- Unaligned PER of dates and times as a kind of value with an encoding.
 use Prim.Native.Nat.{ℕ}
-use mathlib.Core.Bool.{Bool}
 use mathlib.Core.List.{List}
-use Rattle.octets.specs.Found.{Found, found, nothing}
+use Rattle.octets.specs.Found.{ofFound}
 use Rattle.answers.specs.Outcomes.{Answer}
 use Rattle.answers.specs.declared.counts.Bits.{Bits}
 use Rattle.texts.specs.declared.forms.Form.{Form}
@@ -13,15 +12,9 @@ use Rattle.fields.specs.Fields.{layout, bitCount}
 use Rattle.rows.specs.Fields.{yearRowOf, fieldsOf}
 use Rattle.rows.specs.Readings.{readOctets}
 use Rattle.rows.specs.declared.YearRow.{YearRow}
-use mathlib.Core.Option.{Option, some, none}
 use Rattle.kinds.specs.Kinds.{Kind}
 use Rattle.kinds.specs.Coding.{encoded, decoded}
 use Rattle.held_values.specs.Encodings.{Encoding, encodedBy}
-
--- What bits give, whatever is left of them.
-abbrev pub ofBits : Found Bool Value → Option Value
-ofBits (found v rest) = some v
-ofBits nothing = none
 
 -- "Bits": the octets of the layout of a value's fields, and the plain sum of their widths.
 unfoldable pub encodingOf : YearRow → Value → List ℕ
@@ -36,7 +29,7 @@ inPer = record {
   row = yearRowOf;
   encoding = encodingOf;
   count = countOf;
-  readOctets = λ row form octets. ofBits (readOctets row form octets);
+  readOctets = λ row form octets. ofFound (readOctets row form octets);
 }
 
 -- Dates and times in unaligned PER.

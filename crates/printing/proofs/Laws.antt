@@ -1,3 +1,4 @@
--- Laws of stores, and of the canonical text in a lent buffer.
+-- Laws of stores, and of the canonical text of a value or a duration in a lent buffer.
 pub mod Stores
 pub mod Canonical
+pub mod Durations

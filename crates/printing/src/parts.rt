@@ -24,7 +24,7 @@ use texts::Zone;
 use texts::year_of;
 
 // The last w decimal digits of n.
-fn put_digits(b: &mut [u8], at: usize, w: usize, n: u64) -> usize
+pub(crate) fn put_digits(b: &mut [u8], at: usize, w: usize, n: u64) -> usize
     requires { ⌜ at + w ≤ length (now b) ⌝ }
     ensures { λ r. ⌜ StoredText (now (b .entry)) (now (b .exit)) at (putDigits w n) r ⌝ }
     ensures { λ r. ⌜ r ≡ at + w ⌝ }
@@ -148,7 +148,7 @@ fn put_clock(b: &mut [u8], at: usize, clock: Clock) -> usize
 }
 
 // A full stop and the fraction's digits, nothing where there are none.
-fn put_fraction(b: &mut [u8], at: usize, digits: u32, number: u32) -> usize
+pub(crate) fn put_fraction(b: &mut [u8], at: usize, digits: u32, number: u32) -> usize
     requires { ⌜ (digits ≤ 9) × (at + 10 ≤ length (now b)) ⌝ }
     ensures { λ r. ⌜ StoredText (now (b .entry)) (now (b .exit)) at (putFraction digits (fraction false number)) r ⌝ }
     ensures { λ r. ⌜ r ≤ at + 10 ⌝ }

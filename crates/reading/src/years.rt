@@ -5,11 +5,11 @@ ghost use lib.ListN.{drop};
 ghost use Rattle.calendar.specs.Years.{yearAt};
 ghost use Rattle.texts.specs.Years.{longestYear, signedFits, signedYear, getSigned, getYear};
 ghost use Rattle.reading.specs.Steps.{seenYear};
-use crate::fields::digits;
-use crate::fields::leading_digits;
-use crate::fields::mark;
 use crate::steps::Step;
 use crate::steps::YearStep;
+use crate::text_fields::digits;
+use crate::text_fields::leading_digits;
+use crate::text_fields::mark;
 use calendar::Year;
 use texts::has_digits;
 

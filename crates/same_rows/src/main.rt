@@ -7,9 +7,9 @@ use libc::STDIN_FILENO;
 use libc::STDOUT_FILENO;
 use octets::find;
 use settings::read_type;
+use types::AnyType;
 use types::Limits;
-use types::Type;
-use types::TypeRead;
+use types::TypeFound;
 use types::Window;
 use types::same_rows;
 ghost use mathlib.Core.Path.{_≡_};
@@ -54,7 +54,7 @@ fn write(octets: &[u8]) {
 }
 
 // The reply on two types.
-fn types_reply(a: Type, b: Type) {
+fn types_reply(a: AnyType, b: AnyType) {
     if same_rows(a, b) {
         write(b"0 same ");
     } else {
@@ -66,11 +66,44 @@ fn types_reply(a: Type, b: Type) {
     write(b"\n");
 }
 
-// The reply on what is no type.
-fn refusal_reply(read: TypeRead) {
-    match read {
-        TypeRead::NoRow => write(b"2\n"),
-        _ => write(b"1\n"),
+// The reply on what is no type: lists that share no row, or what can't be read.
+fn number_reply(rowless: bool) {
+    if rowless {
+        return write(b"2\n");
+    }
+    write(b"1\n")
+}
+
+// The reply on what was found to be no type.
+fn refusal_reply(found: TypeFound) {
+    match found {
+        TypeFound::NoType(rowless) => number_reply(rowless),
+        _ => write(b"?\n"),
+    }
+}
+
+// Whether a type was found.
+fn is_type(found: TypeFound) -> bool {
+    match found {
+        TypeFound::NoType(_) => false,
+        _ => true,
+    }
+}
+
+// A type of durations: its settings as they are listed, or DURATION.
+fn duration_type(listed: bool) -> AnyType {
+    if listed {
+        return AnyType::ListedDuration;
+    }
+    AnyType::DURATION
+}
+
+// The type that was found.
+fn type_of(found: TypeFound) -> AnyType {
+    match found {
+        TypeFound::Point(t) => AnyType::Point(t),
+        TypeFound::Duration(listed) => duration_type(listed),
+        TypeFound::NoType(_) => AnyType::DURATION,
     }
 }
 
@@ -81,14 +114,14 @@ fn texts_reply(a: Limits, b: Limits, texts: &[u8]) {
         return write(b"?\n");
     }
     let first = read_type(&texts[0..end], a);
-    let TypeRead::Type(t) = first else {
+    if !is_type(first) {
         return refusal_reply(first);
-    };
+    }
     let second = read_type(&texts[end + 1..], b);
-    let TypeRead::Type(u) = second else {
+    if !is_type(second) {
         return refusal_reply(second);
-    };
-    types_reply(t, u)
+    }
+    types_reply(type_of(first), type_of(second))
 }
 
 // The reply on two types' texts under the limits of two octets of the menu.

@@ -1,14 +1,16 @@
 ghost use mathlib.Core.Path.{_≡_};
 ghost use mathlib.Core.List.{[], _∷_};
-ghost use Rattle.types.specs.Types.{limitedTo};
-ghost use Rattle.lists.specs.Lists.{yearIn};
-ghost use Rattle.type_texts.specs.TypeTexts.{joined, listsOf, listType, member, sameButYear, timeAt, typeOf, usable, yearFamily, yearsOf};
+ghost use Rattle.types.specs.AnyTypes.{foundType, limitedTo};
+ghost use mathlib.Core.Bool.{_||_};
+ghost use Rattle.lists.specs.Lists.{datedList, timedList, yearIn};
+ghost use Rattle.type_texts.specs.TypeTexts.{joined, listType, member, pointType, sameButYear, timeAt, typeOf, typeOfOther, usable, yearFamily, yearsOf};
 use lists::lists::Settings;
 use lists::lists::list_has_date;
 use lists::lists::list_has_time;
 use lists::lists::read_list;
 use lists::words::BASIC;
 use lists::words::DATE;
+use lists::words::INTERVAL;
 use lists::words::TIME;
 use lists::words::YEAR;
 use lists::words::ZONE;
@@ -18,11 +20,12 @@ use texts::TimeForm;
 use types::numbers::clock_at;
 use types::numbers::date_at;
 use types::numbers::zone_at;
+use types::types::AnyType;
 use types::types::Limits;
 use types::types::PlainYears;
 use types::types::SignedYears;
 use types::types::Type;
-use types::types::TypeRead;
+use types::types::TypeFound;
 use types::types::Years;
 use types::types::has_place;
 
@@ -66,9 +69,9 @@ fn time_at(time: u32, zone: u32) -> TimeForm
     }
 }
 
-// The type of a list, with the Year of a second list of its row, or 0.
-fn list_type(list: Settings, other: u32) -> Type
-    ensures { λ r. ⌜ r ≡ listType list (yearIn list ∷ other ∷ []) ⌝ }
+// The type of a point's list, with the Year of a second list of its row, or 0.
+fn point_type(list: Settings, other: u32) -> Type
+    ensures { λ r. ⌜ r ≡ pointType list (yearIn list ∷ other ∷ []) ⌝ }
 {
     let basic = list.numbers[BASIC];
     let date = date_at(list.numbers[DATE]);
@@ -83,11 +86,24 @@ fn list_type(list: Settings, other: u32) -> Type
     Type::date_time(date, years, time)
 }
 
-// The type of a list under limits, with the Year of a second list of its row, or 0.
-fn limited_list(limits: Limits, list: Settings, other: u32) -> TypeRead
-    ensures { λ r. ⌜ r ≡ limitedTo limits (listType list (yearIn list ∷ other ∷ [])) ⌝ }
+// Whether a list is a point's: it has a date or a time.
+fn has_point(list: Settings) -> bool
+    ensures { λ r. ⌜ r ≡ (datedList list || timedList list) ⌝ }
 {
-    list_type(list, other).limited(limits)
+    if list_has_date(list) {
+        return true;
+    }
+    list_has_time(list)
+}
+
+// The type of a list under limits, with the Year of a second list of its row, or 0.
+fn limited_list(limits: Limits, list: Settings, other: u32) -> TypeFound
+    ensures { λ r. ⌜ r ≡ foundType (limitedTo limits (listType list (yearIn list ∷ other ∷ []))) ⌝ }
+{
+    if !has_point(list) {
+        return AnyType::ListedDuration.limited(limits);
+    }
+    point_type(list, other).limited(limits)
 }
 
 // Whether a list can be read and the limits have their place in it.
@@ -123,62 +139,69 @@ fn same_but_year(a: Settings, b: Settings) -> bool
     if a.numbers[TIME] != b.numbers[TIME] {
         return false;
     }
-    a.numbers[ZONE] == b.numbers[ZONE]
+    if a.numbers[ZONE] != b.numbers[ZONE] {
+        return false;
+    }
+    a.numbers[INTERVAL] == b.numbers[INTERVAL]
 }
 
 // The type of one list.
-fn one_list(limits: Limits, list: Settings) -> TypeRead
-    ensures { λ r. ⌜ r ≡ joined limits (list ∷ []) ⌝ }
+fn one_list(limits: Limits, list: Settings) -> TypeFound
+    ensures { λ r. ⌜ r ≡ foundType (joined limits (list ∷ [])) ⌝ }
 {
     if !is_usable(limits, list) {
-        return TypeRead::Unreadable;
+        return TypeFound::NoType(false);
     }
     limited_list(limits, list, 0)
 }
 
 // The type of two lists.
-fn two_lists(limits: Limits, a: Settings, b: Settings) -> TypeRead
-    ensures { λ r. ⌜ r ≡ joined limits (a ∷ b ∷ []) ⌝ }
+fn two_lists(limits: Limits, a: Settings, b: Settings) -> TypeFound
+    ensures { λ r. ⌜ r ≡ foundType (joined limits (a ∷ b ∷ [])) ⌝ }
 {
     if !is_usable(limits, a) {
-        return TypeRead::Unreadable;
+        return TypeFound::NoType(false);
     }
     if !is_usable(limits, b) {
-        return TypeRead::Unreadable;
+        return TypeFound::NoType(false);
     }
     if !same_but_year(a, b) {
-        return TypeRead::NoRow;
+        return TypeFound::NoType(true);
     }
     let first = a.numbers[YEAR];
     let second = b.numbers[YEAR];
     if first == second {
-        return TypeRead::Unreadable;
+        return TypeFound::NoType(false);
     }
     if year_family(first) != year_family(second) {
-        return TypeRead::NoRow;
+        return TypeFound::NoType(true);
     }
     limited_list(limits, a, second)
 }
 
-// The type of a text that is no name of a useful time type, under limits given beside it.
-fn read_lists(text: &[u8], limits: Limits) -> TypeRead
-    ensures { λ r. ⌜ r ≡ joined limits (listsOf (now (text .entry))) ⌝ }
+// The type of a text that names no point's type, under limits given beside it. The name of durations is looked for after
+// the search for a bar: the names of points are told apart as fast without it.
+fn read_lists(text: &[u8], limits: Limits) -> TypeFound
+    ensures { λ r. ⌜ r ≡ foundType (typeOfOther limits (now (text .entry))) ⌝ }
 {
     let end = text.len();
     let bar = find(text, 0, b'|');
+    if same(text, b"DURATION") {
+        return AnyType::DURATION.limited(limits);
+    }
     if end <= bar {
         return one_list(limits, read_list(text));
     }
     let next = bar + 1;
     if find(text, next, b'|') < end {
-        return TypeRead::Unreadable;
+        return TypeFound::NoType(false);
     }
     two_lists(limits, read_list(&text[..bar]), read_list(&text[next..]))
 }
 
 // The type that a text names or lists, under limits given beside it.
-pub fn read_type(text: &[u8], limits: Limits) -> TypeRead
-    ensures { λ r. ⌜ r ≡ typeOf limits (now (text .entry)) ⌝ }
+pub fn read_type(text: &[u8], limits: Limits) -> TypeFound
+    ensures { λ r. ⌜ r ≡ foundType (typeOf limits (now (text .entry))) ⌝ }
 {
     if same(text, b"DATE") {
         return Type::DATE.limited(limits);

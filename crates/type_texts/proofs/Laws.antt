@@ -2,6 +2,7 @@
 pub mod TypeTexts
 pub mod CheckedTypes
 pub mod Joining
+pub mod Tests
 pub mod Written
 pub mod Complete
 pub mod ListOrder

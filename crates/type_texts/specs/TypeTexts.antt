@@ -7,11 +7,13 @@ use lib.ListN.{length}
 use Rattle.octets.specs.Octets.{bytes, eqList}
 use Rattle.octets.specs.Pieces.{splitOn}
 use Rattle.types.specs.Numbers.{dateAt, clockAt, zoneAt}
-use Rattle.types.specs.Types.{listed, unlimitedDate, unlimitedTime, DATE, TIME-OF-DAY, DATE-TIME, placed, limitedTo}
-use Rattle.lists.specs.Lists.{basicIn, dateIn, yearIn, timeIn, zoneIn, datedList, timedList, listOf}
+use Rattle.types.specs.AnyTypes.{DURATION, limitedTo}
+use Rattle.types.specs.Types.{listed, unlimitedDate, unlimitedTime, DATE, TIME-OF-DAY, DATE-TIME, placed}
+use Rattle.lists.specs.Lists.{basicIn, dateIn, yearIn, timeIn, zoneIn, intervalIn, datedList, timedList, listOf}
 use Rattle.texts.specs.declared.forms.TimeForm.{TimeForm}
 use Rattle.types.specs.declared.types.Years.{Years}
 use Rattle.types.specs.declared.types.Parts.{Parts}
+use Rattle.types.specs.declared.types.AnyType.{AnyType}
 use Rattle.types.specs.declared.types.«Type».{«Type»}
 use Rattle.types.specs.declared.types.Limits.{Limits}
 use Rattle.types.specs.declared.types.TypeRead.{TypeRead}
@@ -29,6 +31,7 @@ listsOf l = map listOf (splitOn 124 l)
 unfoldable pub sameButYear : Settings → Settings → Bool
 sameButYear s t =
     eqb (basicIn s) (basicIn t) && eqb (dateIn s) (dateIn t) && eqb (timeIn s) (timeIn t) && eqb (zoneIn s) (zoneIn t)
+    && eqb (intervalIn s) (intervalIn t)
 
 -- "only as Basic with Proleptic or Negative with L5; such a pair is one row of Table 2": 1 for the first pair, 2 for the second.
 unfoldable pub yearFamily : ℕ → ℕ
@@ -72,12 +75,21 @@ yearsOf ys =
 unfoldable pub timeAt : ℕ → ℕ → TimeForm
 timeAt t z = record { clock = clockAt (t % 10); digits = t / 10; zone = zoneAt z }
 
--- The type of a list, and of the Years of all lists that share its row.
-unfoldable pub listType : Settings → List ℕ → «Type»
-listType s ys =
+-- The type of a point's list, and of the Years of all lists that share its row: the last one of a date-time.
+unfoldable pub pointType : Settings → List ℕ → «Type»
+pointType s ys =
     cond (eqb (basicIn s) 1) (listed (Parts.Date (unlimitedDate (dateAt (dateIn s)) (yearsOf ys))))
     (cond (eqb (basicIn s) 2) (listed (Parts.Time (unlimitedTime (timeAt (timeIn s) (zoneIn s)))))
     (listed (Parts.DateTime (unlimitedDate (dateAt (dateIn s)) (yearsOf ys)) (unlimitedTime (timeAt (timeIn s) (zoneIn s))))))
+
+-- The type of a list, and of the Years of all lists that share its row.
+unfoldable pub listType : Settings → List ℕ → AnyType
+listType s ys =
+    cond (eqb (basicIn s) 1) (AnyType.Point (listed (Parts.Date (unlimitedDate (dateAt (dateIn s)) (yearsOf ys)))))
+    (cond (eqb (basicIn s) 2) (AnyType.Point (listed (Parts.Time (unlimitedTime (timeAt (timeIn s) (zoneIn s))))))
+    (cond (eqb (basicIn s) 3)
+    (AnyType.Point (listed (Parts.DateTime (unlimitedDate (dateAt (dateIn s)) (yearsOf ys)) (unlimitedTime (timeAt (timeIn s) (zoneIn s))))))
+    AnyType.ListedDuration))
 
 -- The type of lists. Too many of them, one that is unreadable, one that is repeated, or one in which a limit has no
 -- place are 1; "any other difference is 2".
@@ -88,10 +100,14 @@ joined limits (s ∷ r) =
     (cond (allOf (oneRow s) r) (limitedTo limits (listType s (map yearIn (s ∷ r)))) TypeRead.NoRow)
     TypeRead.Unreadable
 
+-- The type of a text that names no point's type: DURATION, or what is listed.
+abbrev pub typeOfOther : Limits → List ℕ → TypeRead
+typeOfOther limits l = cond (eqList l (bytes "DURATION")) (limitedTo limits DURATION) (joined limits (listsOf l))
+
 -- "A name stands alone; beside a bar it is refusal 1": there it is an unreadable list.
 unfoldable pub typeOf : Limits → List ℕ → TypeRead
 typeOf limits l =
-    cond (eqList l (bytes "DATE")) (limitedTo limits DATE)
-    (cond (eqList l (bytes "TIME-OF-DAY")) (limitedTo limits TIME-OF-DAY)
-    (cond (eqList l (bytes "DATE-TIME")) (limitedTo limits DATE-TIME)
-    (joined limits (listsOf l))))
+    cond (eqList l (bytes "DATE")) (limitedTo limits (AnyType.Point DATE))
+    (cond (eqList l (bytes "TIME-OF-DAY")) (limitedTo limits (AnyType.Point TIME-OF-DAY))
+    (cond (eqList l (bytes "DATE-TIME")) (limitedTo limits (AnyType.Point DATE-TIME))
+    (typeOfOther limits l)))

@@ -8,6 +8,8 @@ use Rattle.texts.specs.declared.forms.DateForm.{DateForm}
 use Rattle.texts.specs.declared.forms.ClockForm.{ClockForm}
 use Rattle.texts.specs.declared.forms.ZoneForm.{ZoneForm}
 use Rattle.texts.specs.declared.forms.TimeForm.{TimeForm}
+use Rattle.types.specs.Types.{listed, partsOf}
+use Rattle.types.specs.declared.types.AnyType.{AnyType}
 use Rattle.types.specs.declared.types.Years.{Years}
 use Rattle.types.specs.declared.types.Parts.{Parts}
 
@@ -63,6 +65,10 @@ abbrev pub dateTimePairs : DateForm → TimeForm → YearSetting → List (List 
 dateTimePairs f t y =
     bytes "Basic=Date-Time" ∷ dateWord f ∷ yearWord y ∷ timeWord (t .clock) (t .digits) ∷ zoneWord (t .zone) ∷ []
 
+-- The pairs of a list of durations.
+abbrev pub durationPairs : List (List ℕ)
+durationPairs = bytes "Basic=Interval" ∷ bytes "Interval-type=D" ∷ []
+
 -- One Year more, where it is named.
 abbrev pub andNamed : Bool → YearSetting → List YearSetting → List YearSetting
 andNamed true y l = y ∷ l
@@ -78,6 +84,18 @@ abbrev pub listsFor : Parts → List (List (List ℕ))
 listsFor (Parts.Date d) = map (datePairs (d .form)) (namedYears (d .years))
 listsFor (Parts.Time t) = timePairs (t .form) ∷ []
 listsFor (Parts.DateTime d t) = map (dateTimePairs (d .form) (t .form)) (namedYears (d .years))
+
+-- The pairs of each list of a type: of its own settings, or of those that its name stands for.
+abbrev pub listsForType : AnyType → List (List (List ℕ))
+listsForType (AnyType.Point t) = listsFor (partsOf t)
+listsForType AnyType.Duration = durationPairs ∷ []
+listsForType AnyType.ListedDuration = durationPairs ∷ []
+
+-- A type whose settings are listed in place of its name.
+abbrev pub listedType : AnyType → AnyType
+listedType (AnyType.Point t) = AnyType.Point (listed (partsOf t))
+listedType AnyType.Duration = AnyType.ListedDuration
+listedType AnyType.ListedDuration = AnyType.ListedDuration
 
 -- Pieces with the octet c between them.
 unfoldable pub joinWith : ℕ → List (List ℕ) → List ℕ

@@ -7,7 +7,7 @@ use Rattle.types.specs.Types.{partsOf}
 use Rattle.texts.specs.declared.forms.TimeForm.{TimeForm}
 use Rattle.types.specs.declared.types.Years.{Years}
 use Rattle.types.specs.declared.types.Parts.{Parts}
-use Rattle.types.specs.declared.types.«Type».{«Type»}
+use Rattle.types.specs.declared.types.AnyType.{AnyType}
 use Rattle.types.specs.declared.rows.Row.{Row}
 
 -- "either every Year of both is Basic or Proleptic, or none is": 1 where every Year is, 2 where none is.
@@ -41,6 +41,16 @@ sameRow a b =
     && eqb (a .time) (b .time)
     && eqb (a .zone) (b .zone)
 
+-- "with row 37 as one row" (#101): the Basic of a duration is Interval, and it has nothing else that decides.
+abbrev pub durationRow : Row
+durationRow = record { basic = 4; date = 0; family = 0; time = 0; zone = 0 }
+
+-- What decides the rows of a type: its name counts as its settings.
+abbrev pub rowOfType : AnyType → Row
+rowOfType (AnyType.Point t) = rowOf (partsOf t)
+rowOfType AnyType.Duration = durationRow
+rowOfType AnyType.ListedDuration = durationRow
+
 -- Whether two types select the same rows.
-unfoldable pub sameRows : «Type» → «Type» → Bool
-sameRows a b = sameRow (rowOf (partsOf a)) (rowOf (partsOf b))
+unfoldable pub sameRows : AnyType → AnyType → Bool
+sameRows a b = sameRow (rowOfType a) (rowOfType b)

@@ -1,6 +1,6 @@
 -- "What a type is": its settings, its name, and the restrictions that it carries.
 use Prim.Native.Nat.{ℕ}
-use mathlib.Core.Bool.{Bool, true, false, _&&_, _||_, cond}
+use mathlib.Core.Bool.{Bool, true, false, _&&_, _||_}
 use lib.Dec.{leb}
 use Rattle.answers.specs.Refusals.{numberOf}
 use Rattle.texts.specs.declared.forms.DateForm.{DateForm}
@@ -112,10 +112,6 @@ carrying limits («Type».Listed p) = «Type».Listed (restricted limits p)
 carrying limits («Type».Date w) = «Type».Date (limits .window)
 carrying limits («Type».TimeOfDay h) = «Type».TimeOfDay (limits .hour24)
 carrying limits («Type».DateTime w h) = «Type».DateTime (limits .window) (limits .hour24)
-
--- A type under limits, or refusal 1: "a restriction where it has no place".
-unfoldable pub limitedTo : Limits → «Type» → TypeRead
-limitedTo limits t = cond (placed limits (hasDate (partsOf t)) (hasTime (partsOf t))) (TypeRead.«Type» (carrying limits t)) TypeRead.Unreadable
 
 -- "A type may carry two restrictions": neither of them.
 abbrev pub noLimits : Limits

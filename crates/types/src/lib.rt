@@ -4,6 +4,7 @@ pub mod rows;
 pub mod types;
 
 pub use rows::same_rows;
+pub use types::AnyType;
 pub use types::DateType;
 pub use types::Limits;
 pub use types::Name;
@@ -12,6 +13,7 @@ pub use types::PlainYears;
 pub use types::SignedYears;
 pub use types::TimeType;
 pub use types::Type;
+pub use types::TypeFound;
 pub use types::TypeRead;
 pub use types::Window;
 pub use types::Years;

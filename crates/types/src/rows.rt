@@ -1,10 +1,10 @@
 ghost use mathlib.Core.Path.{_≡_};
-ghost use Rattle.types.specs.Rows.{familyOf, rowOf, sameRow, sameRows, timeNumber};
+ghost use Rattle.types.specs.Rows.{familyOf, rowOf, rowOfType, sameRow, sameRows, timeNumber};
 use crate::numbers::clock_number;
 use crate::numbers::date_number;
 use crate::numbers::zone_number;
+use crate::types::AnyType;
 use crate::types::Parts;
-use crate::types::Type;
 use crate::types::Years;
 use texts::ClockForm;
 use texts::TimeForm;
@@ -86,6 +86,26 @@ fn row_of(parts: Parts) -> Row
     }
 }
 
+// The row of durations: their Basic is Interval, and they have nothing else.
+const DURATION_ROW: Row = Row {
+    basic: 4,
+    date: 0,
+    family: 0,
+    time: 0,
+    zone: 0,
+};
+
+// What decides the rows that a type selects.
+fn row_of_type(t: AnyType) -> Row
+    ensures { λ r. ⌜ r ≡ rowOfType t ⌝ }
+{
+    match t {
+        AnyType::Point(t) => row_of(t.settings()),
+        AnyType::Duration => DURATION_ROW,
+        AnyType::ListedDuration => DURATION_ROW,
+    }
+}
+
 // Whether two types agree in all that decides the rows.
 fn same_row(a: Row, b: Row) -> bool
     ensures { λ r. ⌜ r ≡ sameRow a b ⌝ }
@@ -106,8 +126,8 @@ fn same_row(a: Row, b: Row) -> bool
 }
 
 // Whether two types select the same rows.
-pub fn same_rows(a: Type, b: Type) -> bool
+pub fn same_rows(a: AnyType, b: AnyType) -> bool
     ensures { λ r. ⌜ r ≡ sameRows a b ⌝ }
 {
-    same_row(row_of(a.settings()), row_of(b.settings()))
+    same_row(row_of_type(a), row_of_type(b))
 }

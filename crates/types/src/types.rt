@@ -1,6 +1,10 @@
 ghost use mathlib.Core.Path.{_≡_};
-ghost use mathlib.Core.Bool.{_||_};
-ghost use Rattle.types.specs.Types.{carrying, digitsOfParts, everyYear, formOf, formOfParts, fractionDigits, hasDate, hasTime, limitedTo};
+ghost use mathlib.Core.Bool.{false, cond, _||_};
+ghost use Rattle.types.specs.declared.types.AnyType.{AnyType};
+ghost use Rattle.types.specs.declared.types.TypeFound.{TypeFound};
+ghost use Rattle.types.specs.AnyTypes as Any;
+ghost use Rattle.types.specs.AnyTypes.{foundType, limitedTo};
+ghost use Rattle.types.specs.Types.{carrying, digitsOfParts, everyYear, formOf, formOfParts, fractionDigits, hasDate, hasTime};
 ghost use Rattle.types.specs.Types.{listed, nameOf, partsOf, placed, restricted, someYear, unlimitedDate, unlimitedTime};
 ghost use Rattle.types.specs.Types.{wellFormed, wellParts, withHour24, withWindow};
 use calendar::Year;
@@ -64,12 +68,21 @@ pub enum Type {
     DateTime(Window, bool),
 }
 
+// The type of a point, that is of a date, a time or both; or of a duration: the useful time type DURATION, or its settings
+// as they are listed, `Basic=Interval Interval-type=D`. A duration has no restriction.
+pub enum AnyType {
+    Point(Type),
+    Duration,
+    ListedDuration,
+}
+
 // Which useful time type a type is, or that its settings are listed. The DER tag goes by it.
 pub enum Name {
     Listed,
     Date,
     TimeOfDay,
     DateTime,
+    Duration,
 }
 
 // The restrictions that a type may carry, given beside its text: the lowest and the highest year, and whether hour 24 is
@@ -87,11 +100,19 @@ impl Limits {
     };
 }
 
-// What a type's text and its limits give: a type, or why there is none.
+// What a type's text and its limits give: a type, or why there is none. It is what is said of `TypeFound`.
 pub enum TypeRead {
-    Type(Type),
+    Type(AnyType),
     Unreadable,
     NoRow,
+}
+
+// What a type's text and its limits give, as it is handed on: the type of a point by itself; a type of durations, and
+// whether its settings are listed; or no type, and whether it is readable lists that share no row.
+pub enum TypeFound {
+    Point(Type),
+    Duration(bool),
+    NoType(bool),
 }
 
 // Whether one of two tests holds.
@@ -246,6 +267,16 @@ fn digits_of(parts: Parts) -> u32
     }
 }
 
+// A type of durations, or that it is unreadable where there is any limit.
+fn unlimited(listed: bool, limits: Limits) -> TypeFound
+    ensures { λ r. ⌜ r ≡ cond (placed limits false false) (TypeFound.Duration listed) (TypeFound.NoType false) ⌝ }
+{
+    if !has_place(limits, false, false) {
+        return TypeFound::NoType(false);
+    }
+    TypeFound::Duration(listed)
+}
+
 // What DATE stands for: YMD with Year=Basic.
 const YMD_BASIC: DateType = DateType {
     form: DateForm::YMD,
@@ -357,14 +388,14 @@ impl Type {
     }
 
     // The type with these limits in place of its own, or that it is unreadable where one of them has no place.
-    pub fn limited(self, limits: Limits) -> TypeRead
-        ensures { λ r. ⌜ r ≡ limitedTo limits self ⌝ }
+    pub fn limited(self, limits: Limits) -> TypeFound
+        ensures { λ r. ⌜ r ≡ foundType (limitedTo limits (AnyType.Point self)) ⌝ }
     {
         let parts = self.settings();
         if !has_place(limits, has_date(parts), has_time(parts)) {
-            return TypeRead::Unreadable;
+            return TypeFound::NoType(false);
         }
-        TypeRead::Type(self.carry(limits))
+        TypeFound::Point(self.carry(limits))
     }
 
     // Whether settings or a name can give the type.
@@ -400,6 +431,55 @@ impl Type {
             Type::Date(_) => 0,
             Type::TimeOfDay(_) => 0,
             Type::DateTime(_, _) => 0,
+        }
+    }
+}
+
+impl AnyType {
+    // Any duration.
+    pub const DURATION: AnyType = AnyType::Duration;
+
+    // The name that stands for the type's settings, or that they are listed.
+    pub fn name(self) -> Name
+        ensures { λ r. ⌜ r ≡ Any.nameOf self ⌝ }
+    {
+        match self {
+            AnyType::Point(t) => t.name(),
+            AnyType::Duration => Name::Duration,
+            AnyType::ListedDuration => Name::Listed,
+        }
+    }
+
+    // The type with these limits in place of its own, or that it is unreadable where one of them has no place.
+    pub fn limited(self, limits: Limits) -> TypeFound
+        ensures { λ r. ⌜ r ≡ foundType (limitedTo limits self) ⌝ }
+    {
+        match self {
+            AnyType::Point(t) => t.limited(limits),
+            AnyType::Duration => unlimited(false, limits),
+            AnyType::ListedDuration => unlimited(true, limits),
+        }
+    }
+
+    // Whether settings or a name can give the type.
+    pub fn well_formed(self) -> bool
+        ensures { λ r. ⌜ r ≡ Any.wellFormed self ⌝ }
+    {
+        match self {
+            AnyType::Point(t) => t.well_formed(),
+            AnyType::Duration => true,
+            AnyType::ListedDuration => true,
+        }
+    }
+
+    // The number of fraction digits, 0 without a fraction. A duration has its own in each value, and its type none.
+    pub fn fraction_digits(self) -> u32
+        ensures { λ r. ⌜ r ≡ Any.fractionDigits self ⌝ }
+    {
+        match self {
+            AnyType::Point(t) => t.fraction_digits(),
+            AnyType::Duration => 0,
+            AnyType::ListedDuration => 0,
         }
     }
 }

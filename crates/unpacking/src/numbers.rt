@@ -34,7 +34,7 @@ fn wide(octet: u8) -> u64
 }
 
 // A power of two.
-fn power(exponent: u32) -> u64
+pub(crate) fn power(exponent: u32) -> u64
     requires { ⌜ exponent < 64 ⌝ }
     ensures { λ r. ⌜ r ≡ 2 ^ exponent ⌝ }
 {
@@ -68,8 +68,8 @@ fn gathered(octets: &[u8], from: Octets, many: Octets) -> u64
 
 // The number of so many bits: the octets that they lie in are gathered, and the bits around them go. The
 // octet of the first bit is the last of those that carry the bits up to it.
-fn field(octets: &[u8], at: Bits, width: Bits) -> Step
-    requires { ⌜ at .count ≤ 200 ⌝ }
+pub(crate) fn field(octets: &[u8], at: Bits, width: Bits) -> Step
+    requires { ⌜ at .count ≤ 1000 ⌝ }
     requires { ⌜ (1 ≤ width .count) × (width .count ≤ 32) ⌝ }
     ensures { λ r. ⌜ seen (now (octets .entry)) r ≡ readBits (width .count) (rest (now (octets .entry)) at) ⌝ }
     ensures { λ r. ⌜ (numberRead r < 2 ^ width .count) × (place r ≤ at .count + width .count) ⌝ }
@@ -93,7 +93,7 @@ fn field(octets: &[u8], at: Bits, width: Bits) -> Step
 
 // A constrained whole number: one of a range, counted from its lowest.
 pub(crate) fn ranged(octets: &[u8], at: Bits, width: Bits, range: u32) -> Step
-    requires { ⌜ at .count ≤ 200 ⌝ }
+    requires { ⌜ at .count ≤ 1000 ⌝ }
     requires { ⌜ (1 ≤ width .count) × (width .count ≤ 32) ⌝ }
     requires { ⌜ width .count ≡ widthOf range ⌝ }
     ensures { λ r. ⌜ seen (now (octets .entry)) r ≡ run (aRanged range) (rest (now (octets .entry)) at) ⌝ }
@@ -125,7 +125,7 @@ fn signed(number: u32, width: Bits) -> Integer
 // An unconstrained whole number, or free integer: its length, 1 to 4, each of which has its width, and then its
 // bits.
 pub(crate) fn free(octets: &[u8], at: Bits) -> IntegerStep
-    requires { ⌜ at .count ≤ 160 ⌝ }
+    requires { ⌜ at .count ≤ 900 ⌝ }
     ensures { λ r. ⌜ seenInteger (now (octets .entry)) r ≡ run aFree (rest (now (octets .entry)) at) ⌝ }
     ensures { λ r. ⌜ (1 ≤ stepBelow r) × (integerPlace r ≤ at .count + 40) ⌝ }
 {

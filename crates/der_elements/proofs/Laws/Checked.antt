@@ -1,5 +1,5 @@
 -- Checked elements have the octets that the reference gives: some of each tag, written and read; spellings that are read besides; and octets
--- that give nothing. Only a table refuses a tag or a length that writer and reader share.
+-- that give nothing. Those of durations follow. Only a table refuses a tag or a length that writer and reader share.
 use mathlib.Core.Path.{_≡_, refl}
 use mathlib.Core.Bool.{true, false}
 use mathlib.Core.List.{List, [], _∷_}
@@ -27,8 +27,13 @@ use Rattle.texts.specs.declared.values.Time.{Time}
 use Rattle.texts.specs.declared.values.Value.{Value}
 use Rattle.texts.specs.declared.values.Zone.{Zone}
 use Rattle.types.specs.declared.types.Name.{Name}
+use Rattle.durations.specs.Durations.{durationOf, shown, spellable}
+use Rattle.durations.specs.Parts.{anyPresent, count, lastIn, numbers, ofLast, partAt, wellMade}
+use Rattle.durations.specs.Texts.{durationText, fractionLength, getDuration, getEnd, getNumber, getPart, getParts, getPresent, getTimes, needless}
+use Rattle.durations.specs.Texts.{numberDigits, putDuration, putNumber, putPart, putParts, putTimes, readDuration, renderDuration}
+use Rattle.durations.specs.declared.Duration.{Duration}
 use Rattle.der_elements.specs.Elements.{contentsOf, element, elementOf, without}
-use Rattle.der_elements.specs.Readings.{allDigits, digitsOnly, readElement, separated}
+use Rattle.der_elements.specs.Readings.{allDigits, digitsOnly, readDurationElement, readElement, separated}
 
 -- Local time is so far ahead of UTC, or so far behind it.
 abbrev ahead : ℕ → ℕ → Zone
@@ -186,3 +191,193 @@ unreadable =
 nothing-checked : made unreadable ≡ said unreadable
 unfolding unreadable said made
 nothing-checked = refl
+
+-- ---- durations
+
+-- A duration's `last` place from 0, its seven numbers from years to seconds, the count of its fraction digits, and the number that they give.
+abbrev of : ℕ → ℕ → ℕ → ℕ → ℕ → ℕ → ℕ → ℕ → ℕ → ℕ → Duration
+of last years months weeks days hours minutes seconds digits fraction = record {
+  last = last;
+  years = years;
+  months = months;
+  weeks = weeks;
+  days = days;
+  hours = hours;
+  minutes = minutes;
+  seconds = seconds;
+  digits = digits;
+  fraction = fraction;
+}
+
+-- A row has a name and a duration with its element, or with one that is read and not written, or octets that give no duration.
+data DurationRow : Type 0 where
+  duration : Name → Duration → String → DurationRow
+  looseDuration : Name → Duration → String → DurationRow
+  noDuration : Name → String → DurationRow
+
+-- The element of a duration, and what octets give; or that alone.
+data DurationCoding : Type 0 where
+  writing : List ℕ → Option Duration → DurationCoding
+  given : Option Duration → DurationCoding
+
+-- What rows say.
+saidDurations : List DurationRow → List DurationCoding
+unfolding hex
+saidDurations [] = []
+saidDurations (duration name d octets ∷ l) = writing (hex octets) (some d) ∷ saidDurations l
+saidDurations (looseDuration name d octets ∷ l) = given (some d) ∷ saidDurations l
+saidDurations (noDuration name octets ∷ l) = given none ∷ saidDurations l
+
+-- What the definitions make of them.
+readsDuration : Name → String → Option Duration
+unfolding hex eqList getDigits getField leading getFraction anyPresent count lastIn numbers ofLast partAt wellMade durationOf needless getNumber fractionLength
+    getEnd getPresent getPart getParts getTimes getDuration readDuration readDurationElement
+readsDuration name octets = readDurationElement name (hex octets)
+
+madeDurations : List DurationRow → List DurationCoding
+unfolding readsDuration putDigits putFraction sizeIn shown spellable numberDigits putNumber putPart putParts putTimes putDuration renderDuration without
+    contentsOf element
+madeDurations [] = []
+madeDurations (duration name d octets ∷ l) = writing (element name (contentsOf name (durationText d))) (readsDuration name octets) ∷ madeDurations l
+madeDurations (looseDuration name d octets ∷ l) = given (readsDuration name octets) ∷ madeDurations l
+madeDurations (noDuration name octets ∷ l) = given (readsDuration name octets) ∷ madeDurations l
+
+durations : List DurationRow
+durations =
+    -- "the name DURATION, DER tag 1F 22, contents without `P`"
+    duration Name.Duration (of 1 1 6 0 0 0 0 0 0 0) "1F22043159364D" ∷
+    duration Name.Duration (of 6 0 0 0 0 0 0 0 1 5) "1F220554302E3553" ∷
+    duration Name.Duration (of 3 0 0 0 1 0 0 0 0 0) "1F22023144" ∷
+    duration Name.Duration (of 1 0 0 0 0 0 0 0 0 0) "1F2202304D" ∷
+    duration Name.Duration (of 1 1 0 0 0 0 0 0 0 0) "1F22043159304D" ∷
+    duration Name.Duration (of 2 0 0 5 0 0 0 0 0 0) "1F22023557" ∷
+    duration Name.Duration (of 2 0 0 0 0 0 0 0 1 0) "1F2204302E3057" ∷
+    duration Name.Duration (of 6 0 0 0 0 0 0 0 2 50) "1F220654302E353053" ∷
+    duration Name.Duration (of 6 2 10 0 15 10 20 30 0 0) "1F2212325931304D3135445431304832304D333053" ∷
+    duration Name.Duration (of 4 0 0 0 0 72 0 0 0 0) "1F220454373248" ∷
+    duration Name.Duration (of 4 0 29 0 0 0 0 0 2 0) "1F220932394D54302E303048" ∷
+    duration Name.Duration (of 6 999999999 999999999 0 999999999 999999999 999999999 999999999 9 999999999)
+    "1F2247393939393939393939593939393939393939394D3939393939393939394454393939393939393939483939393939393939394D3939393939393939392E39393939393939393953" ∷
+    -- "Any settings list: tag 0E, contents the canonical text."
+    duration Name.Listed (of 1 1 6 0 0 0 0 0 0 0) "0E05503159364D" ∷
+    duration Name.Listed (of 6 0 0 0 0 0 0 0 1 5) "0E065054302E3553" ∷
+    duration Name.Listed (of 3 0 0 0 1 0 0 0 0 0) "0E03503144" ∷
+    duration Name.Listed (of 1 0 0 0 0 0 0 0 0 0) "0E0350304D" ∷
+    duration Name.Listed (of 1 1 0 0 0 0 0 0 0 0) "0E05503159304D" ∷
+    duration Name.Listed (of 2 0 0 5 0 0 0 0 0 0) "0E03503557" ∷
+    duration Name.Listed (of 2 0 0 0 0 0 0 0 1 0) "0E0550302E3057" ∷
+    duration Name.Listed (of 6 0 0 0 0 0 0 0 2 50) "0E075054302E353053" ∷
+    duration Name.Listed (of 6 2 10 0 15 10 20 30 0 0) "0E1350325931304D3135445431304832304D333053" ∷
+    duration Name.Listed (of 4 0 0 0 0 72 0 0 0 0) "0E055054373248" ∷
+    duration Name.Listed (of 4 0 29 0 0 0 0 0 2 0) "0E0A5032394D54302E303048" ∷
+    duration Name.Listed (of 6 999999999 999999999 0 999999999 999999999 999999999 999999999 9 999999999)
+    "0E4850393939393939393939593939393939393939394D3939393939393939394454393939393939393939483939393939393939394D3939393939393939392E39393939393939393953" ∷
+    []
+
+durations-checked : madeDurations durations ≡ saidDurations durations
+unfolding durations saidDurations madeDurations
+durations-checked = refl
+
+looseDurations : List DurationRow
+looseDurations =
+    -- "DER contents with a comma .. count as of the form"
+    looseDuration Name.Duration (of 6 0 0 0 0 0 0 0 1 5) "1F220554302C3553" ∷
+    looseDuration Name.Listed (of 6 0 0 0 0 0 0 0 1 5) "0E065054302C3553" ∷
+    looseDuration Name.Duration (of 2 0 0 1 0 0 0 0 1 5) "1F2204312C3557" ∷
+    looseDuration Name.Listed (of 2 0 0 1 0 0 0 0 1 5) "0E0550312C3557" ∷
+    looseDuration Name.Duration (of 1 1 6 0 0 0 0 0 1 5) "1F22063159362C354D" ∷
+    looseDuration Name.Listed (of 1 1 6 0 0 0 0 0 1 5) "0E07503159362C354D" ∷
+    -- "a zero component that should be gone", in each place, and with a comma
+    looseDuration Name.Duration (of 3 0 0 0 1 0 0 0 0 0) "1F22063059304D3144" ∷
+    looseDuration Name.Listed (of 3 0 0 0 1 0 0 0 0 0) "0E07503059304D3144" ∷
+    looseDuration Name.Duration (of 1 0 0 0 0 0 0 0 0 0) "1F22043059304D" ∷
+    looseDuration Name.Listed (of 1 0 0 0 0 0 0 0 0 0) "0E05503059304D" ∷
+    looseDuration Name.Duration (of 1 0 1 0 0 0 0 0 0 0) "1F22043059314D" ∷
+    looseDuration Name.Listed (of 1 0 1 0 0 0 0 0 0 0) "0E05503059314D" ∷
+    looseDuration Name.Duration (of 3 1 0 0 1 0 0 0 0 0) "1F22063159304D3144" ∷
+    looseDuration Name.Listed (of 3 1 0 0 1 0 0 0 0 0) "0E07503159304D3144" ∷
+    looseDuration Name.Duration (of 4 0 0 0 0 1 0 0 0 0) "1F22053044543148" ∷
+    looseDuration Name.Listed (of 4 0 0 0 0 1 0 0 0 0) "0E06503044543148" ∷
+    looseDuration Name.Duration (of 5 0 0 0 0 0 1 0 0 0) "1F2205543048314D" ∷
+    looseDuration Name.Listed (of 5 0 0 0 0 0 1 0 0 0) "0E0650543048314D" ∷
+    looseDuration Name.Duration (of 6 0 0 0 0 0 0 1 0 0) "1F220554304D3153" ∷
+    looseDuration Name.Listed (of 6 0 0 0 0 0 0 1 0 0) "0E065054304D3153" ∷
+    looseDuration Name.Duration (of 6 0 0 0 0 0 0 0 0 0) "1F220D3059304D3044543048304D3053" ∷
+    looseDuration Name.Listed (of 6 0 0 0 0 0 0 0 0 0) "0E0E503059304D3044543048304D3053" ∷
+    looseDuration Name.Duration (of 4 0 29 0 0 0 0 0 2 0) "1F220D305932394D304454302C303048" ∷
+    looseDuration Name.Listed (of 4 0 29 0 0 0 0 0 2 0) "0E0E50305932394D304454302C303048" ∷
+    -- "octets left over"
+    looseDuration Name.Duration (of 1 1 6 0 0 0 0 0 0 0) "1F22043159364D00" ∷
+    looseDuration Name.Duration (of 3 0 0 0 1 0 0 0 0 0) "1F220231441F22023144" ∷
+    looseDuration Name.Listed (of 1 1 6 0 0 0 0 0 0 0) "0E05503159364D00" ∷
+    looseDuration Name.Listed (of 3 0 0 0 1 0 0 0 0 0) "0E0550304D3144FF" ∷
+    looseDuration Name.Duration (of 0 1 0 0 0 0 0 0 0 0) "1F22023159364D" ∷
+    looseDuration Name.Listed (of 0 1 0 0 0 0 0 0 0 0) "0E03503159364D" ∷
+    []
+
+loose-durations-checked : madeDurations looseDurations ≡ saidDurations looseDurations
+unfolding looseDurations saidDurations madeDurations
+loose-durations-checked = refl
+
+noDurations : List DurationRow
+noDurations =
+    -- `P` in the contents under 1F 22, and none under 0E
+    noDuration Name.Duration "1F2205503159364D" ∷
+    noDuration Name.Duration "1F22065054302E3553" ∷
+    noDuration Name.Listed "0E043159364D" ∷
+    noDuration Name.Listed "0E0554302E3553" ∷
+    -- empty contents, and no component
+    noDuration Name.Duration "1F2200" ∷
+    noDuration Name.Duration "1F220154" ∷
+    noDuration Name.Duration "1F220150" ∷
+    noDuration Name.Listed "0E00" ∷
+    noDuration Name.Listed "0E0150" ∷
+    noDuration Name.Listed "0E025054" ∷
+    -- "tag wrong": those of the two exchanged, those beside 1F 22, one octet, and none
+    noDuration Name.Duration "0E05503159364D" ∷
+    noDuration Name.Duration "0E043159364D" ∷
+    noDuration Name.Listed "1F22043159364D" ∷
+    noDuration Name.Listed "1F2205503159364D" ∷
+    noDuration Name.Duration "1F21043159364D" ∷
+    noDuration Name.Duration "1F23043159364D" ∷
+    noDuration Name.Duration "1F" ∷
+    noDuration Name.Duration "" ∷
+    noDuration Name.Listed "0F05503159364D" ∷
+    noDuration Name.Listed "" ∷
+    -- "the DER length above 127, missing, or above the octets that follow"
+    noDuration Name.Duration "1F22" ∷
+    noDuration Name.Duration "1F2281043159364D" ∷
+    noDuration Name.Duration "1F22843159364D" ∷
+    noDuration Name.Duration "1F22053159364D" ∷
+    noDuration Name.Listed "0E" ∷
+    noDuration Name.Listed "0E8105503159364D" ∷
+    noDuration Name.Listed "0E06503159364D" ∷
+    -- contents that are not of the form
+    noDuration Name.Duration "1F2203303159" ∷
+    noDuration Name.Listed "0E0450303159" ∷
+    noDuration Name.Duration "1F2206312E3559324D" ∷
+    noDuration Name.Listed "0E0750312E3559324D" ∷
+    noDuration Name.Duration "1F220B3130303030303030303059" ∷
+    noDuration Name.Listed "0E0C503130303030303030303059" ∷
+    noDuration Name.Duration "1F220431573244" ∷
+    noDuration Name.Listed "0E055031573244" ∷
+    noDuration Name.Duration "1F220430573144" ∷
+    noDuration Name.Listed "0E055030573144" ∷
+    noDuration Name.Duration "1F2204314D3159" ∷
+    noDuration Name.Listed "0E0550314D3159" ∷
+    noDuration Name.Duration "1F22023148" ∷
+    noDuration Name.Listed "0E03503148" ∷
+    noDuration Name.Duration "1F2203315920" ∷
+    noDuration Name.Listed "0E0450315920" ∷
+    -- under the other names there is no duration
+    noDuration Name.Date "1F1F083230303630363133" ∷
+    noDuration Name.Date "1F1F043159364D" ∷
+    noDuration Name.TimeOfDay "1F2006313532373436" ∷
+    noDuration Name.TimeOfDay "1F200554302E3553" ∷
+    noDuration Name.DateTime "1F210E3230303630363133313532373436" ∷
+    noDuration Name.DateTime "1F21043159364D" ∷
+    []
+
+no-durations-checked : madeDurations noDurations ≡ saidDurations noDurations
+unfolding noDurations saidDurations madeDurations
+no-durations-checked = refl

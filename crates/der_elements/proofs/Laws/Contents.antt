@@ -15,7 +15,7 @@ use Rattle.calendar.specs.Years.{astronomicalOf}
 use Rattle.calendar.specs.declared.dates.Date.{Date}
 use Rattle.texts.specs.Dates.{putAfter, putDate}
 use Rattle.texts.specs.Digits.{putDigits}
-use Rattle.texts.specs.Forms.{clockForm, dateForm, timeForm, zoneForm, yearOf}
+use Rattle.texts.specs.Forms.{clockForm, dateForm, timeForm, zoneForm}
 use Rattle.texts.specs.Octets.{hyphen, colon, letterT}
 use Rattle.texts.specs.Times.{canonical, putClock, putFraction, putTime, putZone}
 use Rattle.texts.specs.Years.{yearText}
@@ -27,6 +27,7 @@ use Rattle.texts.specs.declared.values.Clock.{Clock}
 use Rattle.texts.specs.declared.values.Time.{Time}
 use Rattle.texts.specs.declared.values.Zone.{Zone}
 use Rattle.texts.proofs.Laws.Digits.{is-digit, length-put}
+use Rattle.durations.specs.Texts.{letterP}
 use Rattle.types.specs.Types.{hmsLocal, withWindow, ymdBasic}
 use Rattle.types.specs.declared.types.Name.{Name}
 use Rattle.types.specs.declared.types.Window.{Window}
@@ -42,9 +43,10 @@ pub digit-kept : (name : Name) (c : ℕ) → 48 ≤ c → c ≤ 57 → omits nam
 digit-kept Name.Listed c h k = refl
 digit-kept Name.Date c h k = ne-eqb c hyphen (λ e. omega arith)
 digit-kept Name.TimeOfDay c h k = ne-eqb c colon (λ e. omega arith)
+digit-kept Name.Duration c h k = ne-eqb c letterP (λ e. omega arith)
 digit-kept Name.DateTime c h k = simp (ne-eqb c hyphen (λ e. omega arith), ne-eqb c colon (λ e. omega arith), ne-eqb c letterT (λ e. omega arith))
 
-kept-digits : (name : Name) (w n : ℕ) (r : List ℕ) → without (omits name) (putDigits w n ++ r) ≡ putDigits w n ++ without (omits name) r
+pub kept-digits : (name : Name) (w n : ℕ) (r : List ℕ) → without (omits name) (putDigits w n ++ r) ≡ putDigits w n ++ without (omits name) r
 unfolding without putDigits
 kept-digits name zero n r = refl
 kept-digits name (suc w) n r =
@@ -168,6 +170,7 @@ tag-size Name.Listed = omega arith
 tag-size Name.Date = omega arith
 tag-size Name.TimeOfDay = omega arith
 tag-size Name.DateTime = omega arith
+tag-size Name.Duration = omega arith
 
 -- An element is as long as its parts, and its tag has one or two octets.
 pub element-size : (name : Name) (l : List ℕ)

@@ -34,7 +34,7 @@ use Rattle.held_values.specs.Existence.{existsValue}
 use Rattle.held_values.specs.Holding.{admits, admitsDate}
 use Rattle.held_values.proofs.Laws.Existing.{exists-digits}
 use Rattle.held_values.proofs.Laws.Holding.{in-type}
-use mathlib.Core.Option.{some}
+use mathlib.Core.Option.{Option, some}
 use Rattle.kinds.specs.Coding.{judgedAs}
 use Rattle.kinds.specs.Lawful.{Accepted, Holds, Lawful}
 use Rattle.kinds.proofs.Laws.Coding as Coding
@@ -42,20 +42,22 @@ use Rattle.held_values.specs.Encodings.{ofText}
 use Rattle.held_values.proofs.Laws.Encodings.{admissionAnswer, answerWith, decoded-short, encoded-admitted, judged-as, text-read}
 use Rattle.der_elements.specs.Der.{der, derDecoded, derEncoded, inDer, noBits}
 use Rattle.der_elements.specs.Elements.{contentsOf, element, elementOf, omits, tagOf, without}
-use Rattle.der_elements.specs.Readings.{allDigits, digitsOnly, readContents, readElement}
+use Rattle.der_elements.specs.Readings.{allDigits, digitsOnly, readContents, readElement, underTag}
 use Rattle.der_elements.proofs.Laws.Contents.{date-fields, element-size, fieldsDigits, time-fields, without-most, without-none}
 use Rattle.der_elements.proofs.Laws.Contents.{fields-all, fields-back, fields-kept, fields-length}
 
 -- ---- the tag
 
 abbrev nameAt : List ℕ → Name
-nameAt tag = cond (eqb (length tag) 1) Name.Listed (cond (eqb (getD tag 1 0) 31) Name.Date (cond (eqb (getD tag 1 0) 32) Name.TimeOfDay Name.DateTime))
+nameAt tag = cond (eqb (length tag) 1) Name.Listed (cond (eqb (getD tag 1 0) 31) Name.Date
+    (cond (eqb (getD tag 1 0) 32) Name.TimeOfDay (cond (eqb (getD tag 1 0) 33) Name.DateTime Name.Duration)))
 
 name-back : (name : Name) → nameAt (tagOf name) ≡ name
 name-back Name.Listed = refl
 name-back Name.Date = refl
 name-back Name.TimeOfDay = refl
 name-back Name.DateTime = refl
+name-back Name.Duration = refl
 
 -- Types of one tag have one name, or none.
 pub one-tag : (a b : Name) → tagOf a ≡ tagOf b → a ≡ b
@@ -75,12 +77,14 @@ element-most name v e = let s = element-size name (contentsOf name (textOf v)) i
 
 -- ---- what is written is read
 
-element-read : (name : Name) (form : Form) (l : List ℕ) → length l ≤ 127 → readElement name form (element name l) ≡ readContents name form l
-unfolding readElement element eqList
-element-read Name.Listed form l h = simp (le-leb (length l) 127 h, le-leb (length l) (length l) (omega arith), take-all (length l) l (omega arith))
-element-read Name.Date form l h = simp (le-leb (length l) 127 h, le-leb (length l) (length l) (omega arith), take-all (length l) l (omega arith))
-element-read Name.TimeOfDay form l h = simp (le-leb (length l) 127 h, le-leb (length l) (length l) (omega arith), take-all (length l) l (omega arith))
-element-read Name.DateTime form l h = simp (le-leb (length l) 127 h, le-leb (length l) (length l) (omega arith), take-all (length l) l (omega arith))
+-- An element gives what its contents give.
+pub under-tag : {A : Type 0} (name : Name) (contents : List ℕ → Option A) (l : List ℕ) → length l ≤ 127 → underTag name contents (element name l) ≡ contents l
+unfolding element eqList
+under-tag Name.Listed contents l h = simp (le-leb (length l) 127 h, le-leb (length l) (length l) (omega arith), take-all (length l) l (omega arith))
+under-tag Name.Date contents l h = simp (le-leb (length l) 127 h, le-leb (length l) (length l) (omega arith), take-all (length l) l (omega arith))
+under-tag Name.TimeOfDay contents l h = simp (le-leb (length l) 127 h, le-leb (length l) (length l) (omega arith), take-all (length l) l (omega arith))
+under-tag Name.DateTime contents l h = simp (le-leb (length l) 127 h, le-leb (length l) (length l) (omega arith), take-all (length l) l (omega arith))
+under-tag Name.Duration contents l h = simp (le-leb (length l) 127 h, le-leb (length l) (length l) (omega arith), take-all (length l) l (omega arith))
 
 -- Octets that are all digits are so many digits.
 digits-only : (n : ℕ) (l : List ℕ) → length l ≡ n → allDigits l ≡ true → digitsOnly n l ≡ true
@@ -158,10 +162,10 @@ own-contents form (Ty.DateTime w h) (Value.Time e) f a = absurd (let z : _≡_ {
 -- The element of a value that a type holds gives at every form, also at another than the type's, what the canonical text gives.
 pub element-gives : (t : Ty) (v : Value) → Holds der t v → (form : Form)
     → readElement (nameOf t) form (elementOf (nameOf t) v) ≡ ofText (readOf form (textOf v))
-unfolding elementOf
+unfolding elementOf readElement
 element-gives t v h form =
     let i = in-type t v (h .inside) in
-    element-read (nameOf t) form (contentsOf (nameOf t) (textOf v)) (let m = length-most (nameOf t) v (h .real) in omega arith)
+    under-tag (nameOf t) (readContents (nameOf t) form) (contentsOf (nameOf t) (textOf v)) (let m = length-most (nameOf t) v (h .real) in omega arith)
     ∙ own-contents form t v (i .0) (i .1)
 
 octets-read : (t : Ty) (v : Value) → Holds der t v → readElement (nameOf t) (formOf t) (elementOf (nameOf t) v) ≡ some v
@@ -199,15 +203,20 @@ der-admitted = encoded-admitted inDer
 pub der-judged-as : (t : Ty) (v : Value) (answer : Answer) → judgedAs der t v answer ≡ answerWith answer (judged t v)
 der-judged-as = judged-as inDer
 
--- What is written into a buffer, to be compared with, is the element.
+-- What is written into a buffer, to be compared with, is the element of a text.
+pub own-written : (name : Name) (text room own : List ℕ) (r : Outcome) → length (element name (contentsOf name text)) ≤ length room
+    → r ≡ outcomeOf (done (element name (contentsOf name text)) noBits) room → own ≡ roomOf (done (element name (contentsOf name text)) noBits) room
+    → (r .length .count ≡ length (element name (contentsOf name text))) × (take (r .length .count) own ≡ element name (contentsOf name text))
+own-written name text room own r f o m =
+    let n : r .length .count ≡ length (element name (contentsOf name text)) = ap (λ (p : Outcome). p .length .count) (o ∙ enough _ room noBits f .0) in
+    (n, rw n (ap (take (length (element name (contentsOf name text)))) m ∙ in-front (element name (contentsOf name text)) room noBits f))
+
+-- So of a value: it is the value's element.
 pub own-element : (name : Name) (v : Value) (text room own : List ℕ) (r : Outcome) → existsValue v ≡ true → text ≡ textOf v → 55 ≤ length room
     → r ≡ outcomeOf (done (element name (contentsOf name text)) noBits) room → own ≡ roomOf (done (element name (contentsOf name text)) noBits) room
     → (r .length .count ≤ 55) × (take (r .length .count) own ≡ elementOf name v)
 unfolding elementOf
 own-element name v text room own r x q h o m =
     let l : length (element name (contentsOf name (textOf v))) ≤ 55 = element-most name v x in
-    let f : length (element name (contentsOf name text)) ≤ length room = rw q (omega arith) in
-    let n : r .length .count ≡ length (element name (contentsOf name text)) = ap (λ (p : Outcome). p .length .count) (o ∙ enough _ room noBits f .0) in (
-      rw (n, q) l,
-      rw n (ap (take (length (element name (contentsOf name text)))) m ∙ in-front (element name (contentsOf name text)) room noBits f ∙ rw q),
-    )
+    let w = own-written name text room own r (rw q (omega arith)) o m in
+    (rw (w .0, q) l, w .1 ∙ rw q)

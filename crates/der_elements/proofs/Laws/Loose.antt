@@ -25,7 +25,7 @@ use Rattle.types.specs.declared.types.Name.{Name}
 use Rattle.held_values.specs.Encodings.{ofText}
 use Rattle.der_elements.specs.Elements.{contentsOf, element, omits, tagOf, without}
 use Rattle.der_elements.specs.Loose.{ReadableElement, StandsFor}
-use Rattle.der_elements.specs.Readings.{allDigits, dated, digitsOnly, readContents, readElement, readLength, separated, timed}
+use Rattle.der_elements.specs.Readings.{allDigits, dated, digitsOnly, readContents, readElement, separated, timed, underTag, withinLength}
 use Rattle.der_elements.proofs.Laws.Contents.{digit-kept, without-none}
 
 -- A test that lets something through held.
@@ -81,12 +81,63 @@ unfolding contentsOf without
 stands-for Name.Listed l text e = without-none text ∙ e
 stands-for Name.Date l text e = ap (without (omits Name.Date)) (e .1) ∙ separated-kept Name.Date hyphen 4 l refl (digits-in 8 l (e .0))
 stands-for Name.TimeOfDay l text e = ap (without (omits Name.TimeOfDay)) (e .1) ∙ separated-kept Name.TimeOfDay colon 2 l refl (digits-in 6 l (e .0))
+stands-for Name.Duration l text e = absurd e
 stands-for Name.DateTime l text e =
     let d = digits-both (take 8 l) (drop 8 l) (rw (take-append-drop 8 l) (digits-in 14 l (e .0))) in
     ap (without (omits Name.DateTime)) (e .1)
     ∙ without-append (omits Name.DateTime) (dated (take 8 l)) (letterT ∷ timed (drop 8 l))
     ∙ rw (separated-kept Name.DateTime hyphen 4 (take 8 l) refl (d .0), separated-kept Name.DateTime colon 2 (drop 8 l) refl (d .1))
     (take-append-drop 8 l)
+
+-- ---- tag and length
+
+module _ {A : Type 0} (contents : List ℕ → Option A) (a : A) where
+  length-only : (l : List ℕ) → withinLength contents l ≡ some a
+      → (c : List ℕ) × (rest : List ℕ) × (length c ≤ 127) × (l ≡ length c ∷ (c ++ rest)) × (contents c ≡ some a)
+  length-only [] e = absurd (let z : _≡_ {A = ℕ} 0 1 = cc in omega arith)
+  length-only (n ∷ l) e =
+      let p = let-through (leb n 127 && leb n (length l)) _ a e in
+      let b = both (leb n 127) (leb n (length l)) (p .0) in
+      let k = length-take-le n l (leb-true n (length l) (b .1)) in (
+        take n l,
+        drop n l,
+        rw k (leb-true n 127 (b .0)),
+        rw (k, take-append-drop n l),
+        p .1,
+      )
+
+  length-all : (c rest : List ℕ) → length c ≤ 127 → contents c ≡ some a → withinLength contents (length c ∷ (c ++ rest)) ≡ some a
+  length-all c rest h e =
+      let l = length-append c rest in
+      rw (le-leb (length c) 127 h, le-leb (length c) (length (c ++ rest)) (omega arith), take-append-seam c rest) e
+
+  -- What is read is in an element, and something after it.
+  pub tag-only : (name : Name) (octets : List ℕ) → underTag name contents octets ≡ some a
+      → (c : List ℕ) × (rest : List ℕ) × (length c ≤ 127) × (octets ≡ element name c ++ rest) × (contents c ≡ some a)
+  unfolding element
+  tag-only name octets e =
+      let p = let-through (eqList (take (length (tagOf name)) octets) (tagOf name)) _ a e in
+      let q = length-only (drop (length (tagOf name)) octets) (p .1) in (
+        q .0,
+        q .1,
+        q .2,
+        sym (take-append-drop (length (tagOf name)) octets)
+            ∙ ap (λ (l : List ℕ). l ++ drop (length (tagOf name)) octets) (equal _ (tagOf name) (p .0))
+            ∙ ap (λ (l : List ℕ). tagOf name ++ l) (q .3)
+            ∙ sym (append-assoc (tagOf name) (length (q .0) ∷ q .0) (q .1)),
+        q .4,
+      )
+
+  -- What is in an element is read, whatever is after it.
+  pub tag-all : (name : Name) (octets c rest : List ℕ) → length c ≤ 127 → octets ≡ element name c ++ rest → contents c ≡ some a
+      → underTag name contents octets ≡ some a
+  unfolding element
+  tag-all name octets c rest h s e =
+      let t : octets ≡ tagOf name ++ length c ∷ (c ++ rest) = s ∙ append-assoc (tagOf name) (length c ∷ c) rest in
+      let n = length (tagOf name) in
+      let f : take n octets ≡ tagOf name = ap (take n) t ∙ take-append-seam (tagOf name) _ in
+      let g : drop n octets ≡ length c ∷ (c ++ rest) = ap (drop n) t ∙ drop-append-seam (tagOf name) _ in
+      rw (f, g, equal-test (tagOf name) (tagOf name) refl) (length-all c rest h e)
 
 -- ---- what is read
 
@@ -112,6 +163,7 @@ module _ (form : Form) (v : Value) where
   contents-only Name.Date l e = let p = let-through (digitsOnly 8 l) _ v e in let t = text-only _ (p .1) in (t .0, (p .0, t .1), t .2)
   contents-only Name.TimeOfDay l e = let p = let-through (digitsOnly 6 l) _ v e in let t = text-only _ (p .1) in (t .0, (p .0, t .1), t .2)
   contents-only Name.DateTime l e = let p = let-through (digitsOnly 14 l) _ v e in let t = text-only _ (p .1) in (t .0, (p .0, t .1), t .2)
+  contents-only Name.Duration l e = absurd (let z : _≡_ {A = ℕ} 0 1 = cc in omega arith)
 
   contents-all : (name : Name) (l : List ℕ) (s : Spelling) → StandsFor name l (render s v) → readOf form (render s v) ≡ TextRead.Value v s
       → readContents name form l ≡ some v
@@ -119,63 +171,19 @@ module _ (form : Form) (v : Value) where
   contents-all Name.Date l s t f = rw (t .0) (ap ofText (ap (readOf form) (sym (t .1)) ∙ f))
   contents-all Name.TimeOfDay l s t f = rw (t .0) (ap ofText (ap (readOf form) (sym (t .1)) ∙ f))
   contents-all Name.DateTime l s t f = rw (t .0) (ap ofText (ap (readOf form) (sym (t .1)) ∙ f))
-
-  length-only : (name : Name) (l : List ℕ) → readLength name form l ≡ some v
-      → (contents : List ℕ) × (rest : List ℕ)
-      × (length contents ≤ 127) × (l ≡ length contents ∷ (contents ++ rest)) × (readContents name form contents ≡ some v)
-  length-only name [] e = absurd (let z : _≡_ {A = ℕ} 0 1 = cc in omega arith)
-  length-only name (n ∷ l) e =
-      let p = let-through (leb n 127 && leb n (length l)) _ v e in
-      let b = both (leb n 127) (leb n (length l)) (p .0) in
-      let k = length-take-le n l (leb-true n (length l) (b .1)) in (
-        take n l,
-        drop n l,
-        rw k (leb-true n 127 (b .0)),
-        rw (k, take-append-drop n l),
-        p .1,
-      )
-
-  length-all : (name : Name) (contents rest : List ℕ) → length contents ≤ 127 → readContents name form contents ≡ some v
-      → readLength name form (length contents ∷ (contents ++ rest)) ≡ some v
-  length-all name contents rest h e =
-      let a = length-append contents rest in
-      rw (
-        le-leb (length contents) 127 h,
-        le-leb (length contents) (length (contents ++ rest)) (omega arith),
-        take-append-seam contents rest,
-      )
-      e
+  contents-all Name.Duration l s t f = absurd t
 
   -- What is read is an element of the value, and something after it.
   pub der-reads : (name : Name) (octets : List ℕ) → readElement name form octets ≡ some v → (rest : List ℕ) × ReadableElement name form v octets rest
-  unfolding readElement element
+  unfolding readElement
   der-reads name octets e =
-      let p = let-through (eqList (take (length (tagOf name)) octets) (tagOf name)) _ v e in
-      let q = length-only name (drop (length (tagOf name)) octets) (p .1) in
-      let c = contents-only name (q .0) (q .4) in (
-        q .1,
-        record {
-          contents = q .0;
-          spelling = c .0;
-          short = q .2;
-          text = c .1;
-          formed = c .2;
-          stood =
-              sym (take-append-drop (length (tagOf name)) octets)
-              ∙ ap (λ (l : List ℕ). l ++ drop (length (tagOf name)) octets) (equal _ (tagOf name) (p .0))
-              ∙ ap (λ (l : List ℕ). tagOf name ++ l) (q .3)
-              ∙ sym (append-assoc (tagOf name) (length (q .0) ∷ q .0) (q .1));
-        },
-      )
+      let q = tag-only (readContents name form) v name octets e in
+      let c = contents-only name (q .0) (q .4) in
+      (q .1, record { contents = q .0; spelling = c .0; short = q .2; text = c .1; formed = c .2; stood = q .3 })
 
   -- Every such element is read.
   pub der-reads-all : (name : Name) (octets rest : List ℕ) → ReadableElement name form v octets rest → readElement name form octets ≡ some v
-  unfolding readElement element
+  unfolding readElement
   der-reads-all name octets rest r =
-      let t : octets ≡ tagOf name ++ length (r .contents) ∷ (r .contents ++ rest) =
-      r .stood ∙ append-assoc (tagOf name) (length (r .contents) ∷ r .contents) rest in
-      let n = length (tagOf name) in
-      let f : take n octets ≡ tagOf name = ap (take n) t ∙ take-append-seam (tagOf name) _ in
-      let g : drop n octets ≡ length (r .contents) ∷ (r .contents ++ rest) = ap (drop n) t ∙ drop-append-seam (tagOf name) _ in
-      rw (f, g, equal-test (tagOf name) (tagOf name) refl)
-      (length-all name (r .contents) rest (r .short) (contents-all name (r .contents) (r .spelling) (r .text) (r .formed)))
+      tag-all (readContents name form) v name octets (r .contents) rest (r .short) (r .stood)
+      (contents-all name (r .contents) (r .spelling) (r .text) (r .formed))

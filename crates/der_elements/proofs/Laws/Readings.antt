@@ -1,25 +1,24 @@
 -- These are steps of the code that reads an element.
 use mathlib.Core.Path.{_≡_, refl, ap, sym, _∙_}
-use mathlib.Core.Bool.{true, false, _&&_, and-false, and-true}
+use mathlib.Core.Bool.{Bool, true, false, _&&_, cond, and-false, and-true}
 use mathlib.Core.List.{List, [], _∷_, _++_, append-nil}
 use Prim.Native.Nat.{ℕ, _+_, _-_, _≤_, _<_}
 use native.Mathlib.Numerals.{add-one}
 use native.Mathlib.Omega.{arith}
-use lib.Dec.{eqb}
+use lib.Dec.{eqb, leb}
 use lib.ListN.{length, length-append, length-drop, length-set, take, drop, getD, set, drop-of-length-le}
 use lib.Seq.{drop-cons, drop-drop, length-take-le, take-all, take-at}
-use borrow.Author.Tests.{le-leb, lt-leb, eqb-true}
+use borrow.Author.Tests.{le-leb, leb-true, lt-leb, eqb-true}
 use Rattle.octets.specs.Octets.{eqList}
 use Rattle.octets.specs.Stores.{StoredText, placeAfter, roomAfter}
 use Rattle.octets.proofs.Laws.Cases.{both}
 use Rattle.octets.proofs.Laws.Octets.{unequal-length}
 use Rattle.octets.proofs.Laws.Stores.{put-octet, put-then, put-there, sets-front}
-use mathlib.Core.Option.{none}
+use mathlib.Core.Option.{Option, none}
 use Rattle.texts.specs.Octets.{colon, hyphen, letterT}
-use Rattle.texts.specs.declared.forms.Form.{Form}
 use Rattle.types.specs.declared.types.Name.{Name}
 use Rattle.der_elements.specs.Elements.{tagOf}
-use Rattle.der_elements.specs.Readings.{allDigits, dated, digitsOnly, readContents, readLength, separated, timed}
+use Rattle.der_elements.specs.Readings.{allDigits, contentsEnd, dated, digitsOnly, separated, timed, withinLength}
 
 -- A digit leaves the rest to decide, and any other octet decides.
 module _ (l : List ℕ) (i : ℕ) (h : i < length l) where
@@ -110,6 +109,13 @@ pub front-stored : {l m t : List ℕ} {r : ℕ} → StoredText l m 0 t r → len
 front-stored {l} {m} {t} {r} p h =
     ap (take r) (p .text ∙ sets-front l t h) ∙ take-at t (drop (length t) l) r (let e : r ≡ 0 + length t = p .end in omega arith)
 
+-- An octet that was stored at the front, and octets after it, are the front.
+pub after-octet : (l t : List ℕ) (c : ℕ) {m : List ℕ} {r : ℕ} → (r ≡ placeAfter (set l 0 c) 1 t) × (m ≡ roomAfter (set l 0 c) 1 t) → 1 + length t ≤ length l
+    → (take r m ≡ c ∷ t) × (r ≡ 1 + length t)
+after-octet l t c e h =
+    let s = put-octet {l = l} {at = 0} {c = c} (put-there e (rw length-set (omega arith))) in
+    (front-stored s (omega arith), s .end ∙ omega arith)
+
 -- It is all of the buffer, where it fills it.
 pub all-stored : {l m t : List ℕ} {r : ℕ} → StoredText l m 0 t r → length t ≡ length l → m ≡ t
 all-stored {l} {m} {t} {r} p h =
@@ -134,23 +140,52 @@ module _ (d : List ℕ) (e : length d ≡ 14) where
 
 -- ---- the length
 
-module _ (name : Name) (form : Form) where
-  pub length-missing : (l : List ℕ) → length l ≡ 0 → readLength name form l ≡ none
-  length-missing [] h = refl
-  length-missing (c ∷ l) h = absurd (omega arith)
+-- Where a length tells of contents, they lie in the octets, and what is read is what they give; else nothing is.
+module _ {A : Type 0} (contents : List ℕ → Option A) where
+  pub contents-none : (l : List ℕ) → contentsEnd l ≡ 0 → withinLength contents l ≡ none
+  contents-none [] e = refl
+  contents-none (n ∷ l) e = go (leb n 127 && leb n (length l)) e
+    where
+      go : (b : Bool) → cond b (n + 1) 0 ≡ 0 → cond b (contents (take n l)) none ≡ none
+      go true e = absurd (omega arith)
+      go false e = refl
 
-  pub length-above : (l : List ℕ) → 127 < getD l 0 0 → readLength name form l ≡ none
-  length-above [] h = refl
-  length-above (c ∷ l) h = rw (lt-leb c 127 h)
+  pub contents-there : (l : List ℕ) (end : ℕ) → end ≡ contentsEnd l → (end ≡ 0 → ⊥) → withinLength contents l ≡ contents (take (end - 1) (drop 1 l))
+  contents-there [] end e n = absurd (n e)
+  contents-there (c ∷ l) end e n = go (leb c 127 && leb c (length l)) e
+    where
+      go : (b : Bool) → end ≡ cond b (c + 1) 0 → cond b (contents (take c l)) none ≡ contents (take (end - 1) l)
+      go true e = let q : end - 1 ≡ c = omega arith in rw q
+      go false e = absurd (n e)
 
-  pub length-beyond : (l : List ℕ) → length l < getD l 0 0 + 1 → readLength name form l ≡ none
-  length-beyond [] h = refl
-  length-beyond (c ∷ l) h = rw (lt-leb c (length l) (omega arith), and-false)
+pub contents-within : (l : List ℕ) (end : ℕ) → end ≡ contentsEnd l → (end ≡ 0 → ⊥) → (1 ≤ end) × (end ≤ length l) × (end ≤ 128)
+contents-within [] end e n = absurd (n e)
+contents-within (c ∷ l) end e n = go (leb c 127 && leb c (length l)) refl e
+  where
+    go : (b : Bool) → (leb c 127 && leb c (length l)) ≡ b → end ≡ cond b (c + 1) 0 → (1 ≤ end) × (end ≤ length (c ∷ l)) × (end ≤ 128)
+    go false t e = absurd (n e)
+    go true t e =
+        let p = both (leb c 127) (leb c (length l)) t in
+        let h = leb-true c 127 (p .0) in
+        let k = leb-true c (length l) (p .1) in
+        (omega arith, omega arith, omega arith)
 
-  pub length-within : (l : List ℕ) → getD l 0 0 ≤ 127 → getD l 0 0 + 1 ≤ length l
-      → readLength name form l ≡ readContents name form (take (getD l 0 0 + 1 - 1) (drop 1 l))
-  length-within [] h k = absurd (omega arith)
-  length-within (c ∷ l) h k = let e : c + 1 - 1 ≡ c = omega arith in rw (le-leb c 127 h, le-leb c (length l) (omega arith), e)
+-- The place after the contents, as the code finds it.
+pub end-missing : (l : List ℕ) → length l ≡ 0 → 0 ≡ contentsEnd l
+end-missing [] h = refl
+end-missing (c ∷ l) h = absurd (omega arith)
+
+pub end-above : (l : List ℕ) → 127 < getD l 0 0 → 0 ≡ contentsEnd l
+end-above [] h = refl
+end-above (c ∷ l) h = rw (lt-leb c 127 h)
+
+pub end-beyond : (l : List ℕ) → length l < getD l 0 0 + 1 → 0 ≡ contentsEnd l
+end-beyond [] h = refl
+end-beyond (c ∷ l) h = rw (lt-leb c (length l) (omega arith), and-false)
+
+pub end-there : (l : List ℕ) → getD l 0 0 ≤ 127 → getD l 0 0 + 1 ≤ length l → getD l 0 0 + 1 ≡ contentsEnd l
+end-there [] h k = absurd (omega arith)
+end-there (c ∷ l) h k = rw (le-leb c 127 h, le-leb c (length l) (omega arith))
 
 -- ---- the tag
 

@@ -15,9 +15,9 @@ use Rattle.answers.specs.Outcomes.{Answer, done, refused, fits, outcomeOf}
 use Rattle.answers.specs.Refusals.{numberOf}
 use Rattle.answers.specs.declared.counts.Bits.{Bits}
 use Rattle.answers.specs.declared.refusals.Refusal.{Refusal}
+use Rattle.types.specs.declared.types.AnyType.{AnyType}
 use Rattle.types.specs.declared.types.Limits.{Limits}
 use Rattle.types.specs.declared.types.TypeRead.{TypeRead}
-use Rattle.types.specs.declared.types.«Type».{«Type» as Ty}
 use Rattle.type_texts.specs.TypeTexts.{typeOf}
 use Rattle.kinds.specs.Coding.{encoded, decoded}
 use Rattle.kinds.specs.Kinds.{Kind, holds}
@@ -65,35 +65,35 @@ at-seven false inside own = record { some-cause = omega arith; no-lower = omega 
 
 -- ---- a kind in a direction
 
-module _ {F R A : Type 0} (K : Kind Ty F R A) where
-  abbrev pub coded : Direction → Ty → List ℕ → Answer
+module _ {F R A : Type 0} (K : Kind AnyType F R A) where
+  abbrev pub coded : Direction → AnyType → List ℕ → Answer
   coded encodes t text = encoded K t text
   coded decodes t octets = decoded K t octets
 
   -- Whether octets are what the encoder writes; of a text that is not asked.
-  abbrev ownAs : Direction → Ty → List ℕ → A → Bool
+  abbrev ownAs : Direction → AnyType → List ℕ → A → Bool
   ownAs encodes t text v = true
   ownAs decodes t octets v = eqList octets (K .encoding (K .row t) v)
 
-  none-answer : (d : Direction) (t : Ty) (input : List ℕ) → K .wellFormed t ≡ true → readAs K d t input ≡ none → coded d t input ≡ refused Refusal.Form
+  none-answer : (d : Direction) (t : AnyType) (input : List ℕ) → K .wellFormed t ≡ true → readAs K d t input ≡ none → coded d t input ≡ refused Refusal.Form
   none-answer encodes t input w r = Coding.encoded-none K t input w r
   none-answer decodes t input w r = Coding.decoded-none K t input w r
 
-  some-answer : (d : Direction) (t : Ty) (input : List ℕ) (v : A) → K .wellFormed t ≡ true → readAs K d t input ≡ some v
+  some-answer : (d : Direction) (t : AnyType) (input : List ℕ) (v : A) → K .wellFormed t ≡ true → readAs K d t input ≡ some v
       → coded d t input ≡ answered (K .exists v) (K .inType t v) (ownAs d t input v) (resultAs K d t v) (K .count (K .row t) v)
   some-answer encodes t input v w r = Coding.encoded-some K t input w v r
   some-answer decodes t input v w r = Coding.decoded-some K t input w v r
 
   -- Octets that are what the encoder writes pass the test, and so does every text; what fails it is neither.
-  own-passes : (d : Direction) (t : Ty) (input : List ℕ) (v : A) → (d ≡ decodes → input ≡ K .encoding (K .row t) v) → ownAs d t input v ≡ true
+  own-passes : (d : Direction) (t : AnyType) (input : List ℕ) (v : A) → (d ≡ decodes → input ≡ K .encoding (K .row t) v) → ownAs d t input v ≡ true
   own-passes encodes t input v f = refl
   own-passes decodes t input v f = equal-test input (K .encoding (K .row t) v) (f refl)
 
-  passes-own : (d : Direction) (t : Ty) (input : List ℕ) (v : A) → ownAs d t input v ≡ true → d ≡ decodes → input ≡ K .encoding (K .row t) v
+  passes-own : (d : Direction) (t : AnyType) (input : List ℕ) (v : A) → ownAs d t input v ≡ true → d ≡ decodes → input ≡ K .encoding (K .row t) v
   passes-own encodes t input v h d = absurd (let z : _≡_ {A = ℕ} 0 1 = cc in omega arith)
   passes-own decodes t input v h d = equal input (K .encoding (K .row t) v) h
 
-  fails-decodes : (d : Direction) (t : Ty) (input : List ℕ) (v : A) → ownAs d t input v ≡ false → d ≡ decodes
+  fails-decodes : (d : Direction) (t : AnyType) (input : List ℕ) (v : A) → ownAs d t input v ≡ false → d ≡ decodes
   fails-decodes encodes t input v h = absurd (false≢true (sym h))
   fails-decodes decodes t input v h = refl
 
@@ -103,26 +103,26 @@ other-fails false f = refl
 
 -- ---- the number and its cause
 
-module _ {F R A : Type 0} (K : Kind Ty F R A) (d : Direction) (settings : List ℕ) (limits : Limits) (input room : List ℕ) (answer : Answer)
+module _ {F R A : Type 0} (K : Kind AnyType F R A) (d : Direction) (settings : List ℕ) (limits : Limits) (input room : List ℕ) (answer : Answer)
     (x : answer ≡ underType (typeOf limits settings) λ t. coded K d t input)
-    (f : (t : Ty) → typeOf limits settings ≡ TypeRead.«Type» t → K .wellFormed t ≡ true) where
+    (f : (t : AnyType) → typeOf limits settings ≡ TypeRead.«Type» t → K .wellFormed t ≡ true) where
   abbrev Why : ℕ → Type 0
   Why n = Cause K d settings limits input room n
 
   abbrev number : ℕ
   number = outcomeOf answer room .number
 
-  abbrev enough : Ty → A → Bool
+  abbrev enough : AnyType → A → Bool
   enough t v = leb (length (resultAs K d t v)) (length room)
 
   of-refusal : (why : Refusal) → underType (typeOf limits settings) (λ t. coded K d t input) ≡ refused why → number ≡ numberOf why
   unfolding outcomeOf
   of-refusal why a = ap (λ (y : Answer). outcomeOf y room .number) (x ∙ a)
 
-  of-none : (t : Ty) → typeOf limits settings ≡ TypeRead.«Type» t → readAs K d t input ≡ none → number ≡ 3
+  of-none : (t : AnyType) → typeOf limits settings ≡ TypeRead.«Type» t → readAs K d t input ≡ none → number ≡ 3
   of-none t q r = of-refusal Refusal.Form (rw q (none-answer K d t input (f t q) r))
 
-  of-value : (t : Ty) (v : A) → Gives K d settings limits input t v → number ≡ numbered (K .exists v) (K .inType t v) (ownAs K d t input v) (enough t v)
+  of-value : (t : AnyType) (v : A) → Gives K d settings limits input t v → number ≡ numbered (K .exists v) (K .inType t v) (ownAs K d t input v) (enough t v)
   of-value t v g =
       ap (λ (y : Answer). outcomeOf y room .number) (x ∙ rw (g .type-is) (some-answer K d t input v (f t (g .type-is)) (g .value-is)))
       ∙ number-of (K .exists v) (K .inType t v) (ownAs K d t input v) (resultAs K d t v) room (K .count (K .row t) v)
@@ -131,27 +131,27 @@ module _ {F R A : Type 0} (K : Kind Ty F R A) (d : Direction) (settings : List �
   caused : Why number
   caused = typed (typeOf limits settings) refl
     where
-      in-room : (t : Ty) (v : A) → Gives K d settings limits input t v → holds K t v ≡ true → (d ≡ decodes → input ≡ K .encoding (K .row t) v)
+      in-room : (t : AnyType) (v : A) → Gives K d settings limits input t v → holds K t v ≡ true → (d ≡ decodes → input ≡ K .encoding (K .row t) v)
           → (b : Bool) → enough t v ≡ b → Why (cond b 0 7)
       in-room t v g h o true b = zero t v g h o (leb-true _ _ b)
       in-room t v g h o false b = seven t v g (leb-false _ _ b)
 
-      own : (t : Ty) (v : A) → Gives K d settings limits input t v → holds K t v ≡ true → (b : Bool) → ownAs K d t input v ≡ b
+      own : (t : AnyType) (v : A) → Gives K d settings limits input t v → holds K t v ≡ true → (b : Bool) → ownAs K d t input v ≡ b
           → Why (cond b (cond (enough t v) 0 7) 6)
       own t v g h true b = in-room t v g h (passes-own K d t input v b) (enough t v) refl
       own t v g h false b = six t v g (fails-decodes K d t input v b) (λ q. false≢true (sym b ∙ own-passes K d t input v (λ e. q)))
 
-      inside : (t : Ty) (v : A) → Gives K d settings limits input t v → K .exists v ≡ true → (b : Bool) → K .inType t v ≡ b
+      inside : (t : AnyType) (v : A) → Gives K d settings limits input t v → K .exists v ≡ true → (b : Bool) → K .inType t v ≡ b
           → Why (cond b (cond (ownAs K d t input v) (cond (enough t v) 0 7) 6) 5)
       inside t v g e true b = own t v g (rw (e, b)) (ownAs K d t input v) refl
       inside t v g e false b = five t v g b
 
-      real : (t : Ty) (v : A) → Gives K d settings limits input t v → (b : Bool) → K .exists v ≡ b
+      real : (t : AnyType) (v : A) → Gives K d settings limits input t v → (b : Bool) → K .exists v ≡ b
           → Why (numbered b (K .inType t v) (ownAs K d t input v) (enough t v))
       real t v g true b = inside t v g b (K .inType t v) refl
       real t v g false b = four t v g b
 
-      reads : (t : Ty) → typeOf limits settings ≡ TypeRead.«Type» t → (o : Option A) → readAs K d t input ≡ o → Why number
+      reads : (t : AnyType) → typeOf limits settings ≡ TypeRead.«Type» t → (o : Option A) → readAs K d t input ≡ o → Why number
       reads t q none r = rw (of-none t q r) (three t q r)
       reads t q (some v) r =
           let g : Gives K d settings limits input t v = record { type-is = q; value-is = r } in

@@ -3,6 +3,7 @@
 use mathlib.Core.Path.{_≡_, refl}
 use mathlib.Core.Bool.{_&&_, Bool, true}
 use mathlib.Core.List.{_∷_, List, []}
+use mathlib.Core.Option.{Option, some, none}
 use Prim.Native.Nat.{ℕ}
 use Prim.Native.String.{String}
 use lib.Dec.{eqb}
@@ -14,13 +15,15 @@ use Rattle.calendar.specs.Integers.{divisible, quotient, remainder}
 use Rattle.calendar.specs.Months.{monthLengthOf}
 use Rattle.calendar.specs.Weeks.{daysOfYears, newYear, weekOf, weekOneOf, weeksOf}
 use Rattle.calendar.specs.Years.{astronomicalOf, leapOf, yearAt, yearLengthOf}
-use Rattle.lists.specs.Lists.{addPair, addPairs, complete, completed, datedList, listOf, timedList}
+use Rattle.lists.specs.Lists.{addPair, addPairs, complete, completed, datedList, intervalList, listOf, timedList}
 use Rattle.lists.specs.Words.{fractionNumber, pairOf, placeFrom}
 use Rattle.types.specs.Numbers.{clockAt, dateAt, zoneAt}
 use Rattle.type_texts.proofs.Laws.CheckedTypes.{bothLimits, from2000, noHour24, noYears}
 use Rattle.type_texts.specs.TypeTexts.{allOf, distinct, equalLists, joined, listType, listsOf, member, oneRow, sameButYear, timeAt, typeOf, usable}
 use Rattle.type_texts.specs.TypeTexts.{yearFamily, yearsOf}
-use Rattle.types.specs.Types.{limitedTo, noLimits, placed, typeNumber}
+use Rattle.types.specs.AnyTypes.{limitedTo}
+use Rattle.types.specs.Types.{noLimits, placed, typeNumber}
+use Rattle.types.specs.declared.types.AnyType.{AnyType}
 use Rattle.types.specs.declared.types.Limits.{Limits}
 use Rattle.types.specs.declared.types.TypeRead.{TypeRead}
 use Rattle.types.specs.declared.types.Window.{Window}
@@ -29,6 +32,11 @@ use Rattle.texts.specs.Digits.{getDigits, getField, leading, putDigits}
 use Rattle.texts.specs.Texts.{getValue, readUpTo, render, textOf}
 use Rattle.texts.specs.Times.{getAfterHours, getClock, getDifference, getFraction, getMinutes, getTime, getZone, putClock, putFraction, putTime, putZone}
 use Rattle.texts.specs.Years.{getSigned, getYear, signedFits, sizeIn, yearDigits, yearText}
+use Rattle.durations.specs.Answers.{durationIn, durationNumber}
+use Rattle.durations.specs.Durations.{durationOf, shown, spellable}
+use Rattle.durations.specs.Parts.{anyPresent, count, lastIn, numbers, ofLast, partAt, wellMade}
+use Rattle.durations.specs.Texts.{fractionLength, getDuration, getEnd, getNumber, getPart, getParts, getPresent, getTimes, madeCanonical, needless}
+use Rattle.durations.specs.Texts.{numberDigits, putDuration, putNumber, putPart, putParts, putTimes, readDuration, renderDuration}
 use Rattle.held_values.specs.Admission.{admissionNumber, admitted, judged}
 use Rattle.held_values.specs.Existence.{existsClock, existsDifference, existsFraction, existsTime}
 use Rattle.held_values.specs.Forms.{sameDateForm, sameTimeForm}
@@ -125,6 +133,17 @@ rows =
     row "DATE-TIME" "1500-02-30T25:00:00" 4 "" ∷
     row "DATE-TIME" "1500-02-30T25:00" 3 "" ∷
     row "DATE-TIME" "1500-02-28T24:00:00" 5 "" ∷
+    -- durations beside points: #101's own, and a text of the other kind
+    row "DURATION" "P1Y6M" 0 "P1Y6M" ∷
+    row "DURATION" "PT0.5S" 0 "PT0.5S" ∷
+    row "DURATION" "P0Y0M1D" 0 "P1D" ∷
+    row "Basic=Interval Interval-type=D" "P0Y0M" 0 "P0M" ∷
+    row "Interval-type=D Basic=Interval" "P1Y0M" 0 "P1Y0M" ∷
+    row "DURATION" "2006-06-13" 3 "" ∷
+    row "DATE" "P1Y6M" 3 "" ∷
+    row "TIME-OF-DAY" "PT15H27M46S" 3 "" ∷
+    row "Basic=Interval Interval-type=D|Basic=Interval Interval-type=D" "P1D" 1 "" ∷
+    row "Basic=Interval Interval-type=D|Basic=Date Date=Y Year=Basic" "P1D" 2 "" ∷
     row "Basic=Time Time=H" "25" 1 "" ∷
     row "DATE|DATE" "2006-02-30" 1 "" ∷
     row "Basic=Date Date=Y Year=Basic|Basic=Date Date=Y Year=L5" "206" 2 "" ∷
@@ -178,10 +197,18 @@ limited =
     -- "a restriction where it has no place"
     under "DATE" noHour24 "2006-06-13" 1 "" ∷
     under "TIME-OF-DAY" from2000 "15:27:46" 1 "" ∷
+    under "DURATION" from2000 "P1Y6M" 1 "" ∷
+    under "DURATION" noHour24 "P1Y6M" 1 "" ∷
+    under "DURATION" noYears "P1Y6M" 1 "" ∷
+    under "Basic=Interval Interval-type=D" from2000 "P1Y6M" 1 "" ∷
+    under "Basic=Interval Interval-type=D" noHour24 "P01Y" 1 "" ∷
+    under "Basic=Interval Interval-type=D" bothLimits "P1Y6M" 1 "" ∷
     []
 
 numberIn : TypeRead → List ℕ → ℕ
-numberIn (TypeRead.«Type» t) l = admissionNumber (admitted t l)
+numberIn (TypeRead.«Type» (AnyType.Point t)) l = admissionNumber (admitted t l)
+numberIn (TypeRead.«Type» AnyType.Duration) l = durationNumber (durationIn (readDuration l))
+numberIn (TypeRead.«Type» AnyType.ListedDuration) l = durationNumber (durationIn (readDuration l))
 numberIn TypeRead.Unreadable l = typeNumber TypeRead.Unreadable
 numberIn TypeRead.NoRow l = typeNumber TypeRead.NoRow
 
@@ -189,8 +216,14 @@ textAfter : Admission → List ℕ
 textAfter (Admission.Value v) = textOf v
 textAfter (Admission.Refused why) = []
 
+textRead : Option (List ℕ) → List ℕ
+textRead (some l) = l
+textRead none = []
+
 textIn : TypeRead → List ℕ → List ℕ
-textIn (TypeRead.«Type» t) l = textAfter (admitted t l)
+textIn (TypeRead.«Type» (AnyType.Point t)) l = textAfter (admitted t l)
+textIn (TypeRead.«Type» AnyType.Duration) l = textRead (madeCanonical l)
+textIn (TypeRead.«Type» AnyType.ListedDuration) l = textRead (madeCanonical l)
 textIn TypeRead.Unreadable l = []
 textIn TypeRead.NoRow l = []
 
@@ -203,19 +236,24 @@ allRight (row s text number canonical ∷ l) = isRight (typeOf noLimits (bytes s
 allRight (under s limits text number canonical ∷ l) = isRight (typeOf limits (bytes s)) (bytes text) number canonical && allRight l
 
 texts-checked : allRight rows ≡ true
-unfolding rows numberIn textAfter textIn isRight allRight upTo quotient remainder divisible monthLengthOf daysOfYears newYear weekOf weekOneOf weeksOf
+unfolding rows numberIn textAfter textRead textIn isRight allRight upTo quotient remainder divisible monthLengthOf daysOfYears newYear weekOf weekOneOf weeksOf
     astronomicalOf yearAt leapOf yearLengthOf putAfter putDate getWeek getAfter getDate putDigits getDigits getField leading render getValue readUpTo putClock
     getAfterHours getClock putFraction getFraction putZone getMinutes getDifference getZone putTime getTime sizeIn yearDigits yearText signedFits getSigned
     getYear splitOn addPair addPairs datedList timedList complete completed listOf eqList placeFrom fractionNumber pairOf dateAt clockAt zoneAt listsOf
     sameButYear yearFamily oneRow equalLists allOf distinct usable member yearsOf timeAt listType joined typeOf placed limitedTo judged admitted existsClock
-    existsFraction existsDifference existsTime sameDateForm sameTimeForm between admitsDate admitsTime inType holdsOf
+    existsFraction existsDifference existsTime sameDateForm sameTimeForm between admitsDate admitsTime inType holdsOf intervalList durationOf
+    shown spellable anyPresent count lastIn numbers ofLast partAt wellMade fractionLength getDuration getEnd getNumber getPart getParts getPresent getTimes
+    needless numberDigits putDuration putNumber putPart putParts putTimes readDuration renderDuration
 texts-checked = refl
 
 limits-checked : allRight limited ≡ true
-unfolding limited early from1500 numberIn textAfter textIn isRight allRight upTo quotient remainder divisible monthLengthOf daysOfYears newYear weekOf
+unfolding limited early from1500 numberIn textAfter textRead textIn isRight allRight upTo quotient remainder divisible monthLengthOf daysOfYears newYear weekOf
     weekOneOf weeksOf astronomicalOf yearAt leapOf yearLengthOf putAfter putDate getWeek getAfter getDate putDigits getDigits getField leading render getValue
     readUpTo putClock getAfterHours getClock putFraction getFraction putZone getMinutes getDifference getZone putTime getTime sizeIn yearDigits yearText
     signedFits getSigned getYear splitOn addPair addPairs datedList timedList complete completed listOf eqList placeFrom fractionNumber pairOf dateAt clockAt
     zoneAt listsOf sameButYear yearFamily oneRow equalLists allOf distinct usable member yearsOf timeAt listType joined typeOf placed limitedTo judged
     admitted existsClock existsFraction existsDifference existsTime sameDateForm sameTimeForm between admitsDate admitsTime inType holdsOf
+    intervalList durationOf
+    shown spellable anyPresent count lastIn numbers ofLast partAt wellMade fractionLength getDuration getEnd getNumber getPart getParts getPresent getTimes
+    needless numberDigits putDuration putNumber putPart putParts putTimes readDuration renderDuration
 limits-checked = refl

@@ -57,14 +57,14 @@ number-read (TextRead.Value w s) v e = refl
 number-read TextRead.NotOfForm v e = absurd (let z : _≡_ {A = ℕ} 0 1 = cc in omega arith)
 
 -- A text that gives a value is one of the value's texts.
-text-of : (f : Form) (l : List ℕ) (v : Value) (r : TextRead) → readOf f l ≡ r → ofText r ≡ some v → (s : Spelling) × (l ≡ render s v)
+pub text-of : (f : Form) (l : List ℕ) (v : Value) (r : TextRead) → readOf f l ≡ r → ofText r ≡ some v → (s : Spelling) × (l ≡ render s v)
 text-of f l v (TextRead.Value w s) r q =
     let p : w ≡ v = cc in
     (s, render-read longestYear (omega arith) (omega arith) f l w s r .0 ∙ ap (render s) p)
 text-of f l v TextRead.NotOfForm r q = absurd (let z : _≡_ {A = ℕ} 0 1 = cc in omega arith)
 
 -- The canonical text of a value that a type holds is of no other form than the type's.
-held-form : (t : Ty) (v : Value) → holdsOf t v ≡ true → (f : Form) (w : Value) → ofText (readOf f (textOf v)) ≡ some w → formOf t ≡ f
+pub held-form : (t : Ty) (v : Value) → holdsOf t v ≡ true → (f : Form) (w : Value) → ofText (readOf f (textOf v)) ≡ some w → formOf t ≡ f
 held-form t v h f w e = go (sameForm (valueForm v) f) refl
   where
     go : (b : Bool) → sameForm (valueForm v) f ≡ b → formOf t ≡ f

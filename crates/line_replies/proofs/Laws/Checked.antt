@@ -17,12 +17,13 @@ use Rattle.texts.specs.Digits.{getDigits, getField, leading, putDigits}
 use Rattle.texts.specs.Texts.{getValue, readUpTo, render}
 use Rattle.texts.specs.Times.{getAfterHours, getClock, getDifference, getFraction, getMinutes, getTime, getZone, putClock, putFraction, putTime, putZone}
 use Rattle.texts.specs.Years.{getSigned, getYear, signedFits, sizeIn, yearDigits, yearText}
-use Rattle.lists.specs.Lists.{addPair, addPairs, complete, completed, datedList, listOf, timedList}
+use Rattle.lists.specs.Lists.{addPair, addPairs, complete, completed, datedList, intervalList, listOf, timedList}
 use Rattle.lists.specs.Words.{fractionNumber, pairOf, placeFrom}
 use Rattle.types.specs.Numbers.{clockAt, dateAt, zoneAt}
 use Rattle.type_texts.specs.TypeTexts.{allOf, distinct, equalLists, joined, listType, listsOf, member, oneRow, sameButYear, timeAt, typeOf, usable}
 use Rattle.type_texts.specs.TypeTexts.{yearFamily, yearsOf}
-use Rattle.types.specs.Types.{limitedTo, placed}
+use Rattle.types.specs.AnyTypes.{limitedTo}
+use Rattle.types.specs.Types.{placed}
 use Rattle.held_values.specs.Existence.{existsClock, existsDifference, existsFraction, existsTime}
 use Rattle.held_values.specs.Forms.{sameDateForm, sameTimeForm}
 use Rattle.held_values.specs.Holding.{admitsDate, admitsTime, between, inType}
@@ -34,12 +35,20 @@ use Rattle.rows.specs.Fields.{choiceOfYear, clockFields, dateFields, dayFields,
 use Rattle.rows.specs.Fields.{otherYear, timeFields, yearFields, zoneFields}
 use Rattle.rows.specs.Readings.{differenceAt, natural, readChoice, readClock, readDate, readDay, readExtended, readFraction, readMinutes, readOctets}
 use Rattle.rows.specs.Readings.{readTime, readValue, readYear, readZone}
+use Rattle.durations.specs.Durations.{allSmall, allZero, durationOf, endsAt, existsDuration, shown, spellable, weeksAlone}
+use Rattle.durations.specs.Fields.{durationFields, extended, fractionPart, longNumber, numberFields, presences}
+use Rattle.durations.specs.Parts.{anyPresent, count, lastIn, numbers, ofLast, partAt, wellMade}
+use Rattle.durations.specs.Readings as Durations
+use Rattle.durations.specs.Readings.{durationInOctets, endedBy, readAfter, readFields, readNumbers, readPresences, readTail}
+use Rattle.durations.specs.Texts.{fractionLength, getDuration, getEnd, getNumber, getPart, getParts, getPresent, getTimes, needless, numberDigits}
+use Rattle.durations.specs.Texts.{putDuration, putNumber, putPart, putParts, putTimes, readDuration, renderDuration}
 use Rattle.kinds.specs.Coding.{compared, decoded, encoded, judgedAs, judgedOctets, judgedText}
-use Rattle.per.specs.Per.{countOf, encodingOf}
+use Rattle.per.specs.AnyPer.{countOf, encodingOf}
 use Rattle.answers.specs.Counts.{octetsFor}
 use Rattle.exchanges.specs.Coding.{answerOf}
-use Rattle.der_elements.specs.Elements.{contentsOf, element, elementOf, without}
-use Rattle.der_elements.specs.Readings.{allDigits, digitsOnly, readElement, separated}
+use Rattle.der_elements.specs.AnyDer.{elementOf}
+use Rattle.der_elements.specs.Elements.{contentsOf, element, without}
+use Rattle.der_elements.specs.Readings.{allDigits, digitsOnly, readDurationElement, readElement, separated}
 use Rattle.line_replies.specs.Lines.{cutAgain, entryNamed, fromHex, hexDigit, hexNumber, replyOf, toHex, worked}
 
 -- a line with so many zeros behind it, and its reply
@@ -104,7 +113,10 @@ unfolding upTo quotient remainder divisible monthLengthOf daysOfYears newYear we
     longFraction fractionFields hoursField differenceFields zoneFields timeFields fieldsOf readChoice readYear readDay readDate readClock natural readExtended
     readFraction readMinutes differenceAt readZone readTime readValue readOctets judgedAs judgedText encoded compared judgedOctets decoded encodingOf countOf
     octetsFor spanTo without contentsOf element elementOf allDigits digitsOnly separated readElement hexDigit toHex hexNumber fromHex worked cutAgain replyOf
-    answerOf entryNamed
+    answerOf entryNamed intervalList allSmall allZero durationOf endsAt existsDuration shown spellable weeksAlone durationFields extended fractionPart
+    longNumber numberFields presences count anyPresent lastIn numbers ofLast partAt wellMade Durations.natural Durations.readExtended durationInOctets endedBy
+    readAfter readFields readNumbers readPresences readTail fractionLength getDuration getEnd getNumber getPart getParts getPresent getTimes needless
+    numberDigits putDuration putNumber putPart putParts putTimes readDuration renderDuration readDurationElement
 allRight [] = true
 allRight (line text zeros reply ∷ l) =
     eqList (replyOf (bytes text ++ replicate zeros 48)) (bytes reply ++ bytes "\n") && allRight l
@@ -161,3 +173,52 @@ digits =
 hex-checked : allRight digits ≡ true
 unfolding digits allRight
 hex-checked = refl
+
+-- "The name DURATION" and "`Basic=Interval Interval-type=D`" in each work (#101)
+durations : List Row
+durations =
+    -- the texts of the request and their octets, "and, after 0, the hex or text"
+    line "per;DURATION;P1Y6M" 0 "0 C004C0" ∷
+    line "der;DURATION;P1Y6M" 0 "0 1F22043159364D" ∷
+    line "unper;DURATION;C004C0" 0 "0 P1Y6M" ∷
+    line "under;DURATION;1F22043159364D" 0 "0 P1Y6M" ∷
+    line "per;Basic=Interval Interval-type=D;PT0.5S" 0 "0 03000020" ∷
+    line "der;Basic=Interval Interval-type=D;PT0,5S" 0 "0 0E065054302E3553" ∷
+    line "unper;Interval-type=D Basic=Interval;03000020" 0 "0 PT0.5S" ∷
+    line "under;Basic=Interval Interval-type=D;0e065054302e3553" 0 "0 PT0.5S" ∷
+    line "per;DURATION;P0Y0M1D" 0 "0 1004" ∷
+    line "der;DURATION;P0Y0M" 0 "0 1F2202304D" ∷
+    line "der;DURATION;P1Y0M" 0 "0 1F22043159304D" ∷
+    -- 3: "a needless leading zero", "weeks beside another one", "no component at all", `P` in the contents, the other tag, a point's text
+    line "per;DURATION;P01Y" 0 "3" ∷
+    line "der;DURATION;P1W2D" 0 "3" ∷
+    line "unper;DURATION;0000" 0 "3" ∷
+    line "under;DURATION;1F2205503159364D" 0 "3" ∷
+    line "under;Basic=Interval Interval-type=D;1F22043159364D" 0 "3" ∷
+    line "per;DURATION;" 0 "3" ∷
+    line "per;DATE;P1Y6M" 0 "3" ∷
+    line "per;DURATION;2006-06-13" 0 "3" ∷
+    -- a third semicolon is the input's
+    line "per;DURATION;P1;5Y" 0 "3" ∷
+    line "per;DURATION;P1Y6M;" 0 "3" ∷
+    -- 6: "a zero component that should be gone", "a number after a 1 bit that fits without it", a comma
+    line "unper;DURATION;C00000" 0 "6" ∷
+    line "unper;DURATION;80808F80" 0 "6" ∷
+    line "under;DURATION;1F220430593144" 0 "6" ∷
+    line "under;DURATION;1F220554302C3553" 0 "6" ∷
+    -- 1 and 2, of the type; but hex digits are asked for first
+    line "per;Duration;P1Y6M" 0 "1" ∷
+    line "unper;DURATION|DURATION;C004C0" 0 "1" ∷
+    line "der;Basic=Interval Interval-type=D|Basic=Date Date=Y Year=Basic;P1D" 0 "2" ∷
+    line "unper;DURATION;C004C" 0 "?" ∷
+    line "under;Duration;P1" 0 "?" ∷
+    -- the longest text
+    line "der;DURATION;P999999999Y999999999M999999999DT999999999H999999999M999999999.999999999S" 0
+    "0 1F2247393939393939393939593939393939393939394D3939393939393939394454393939393939393939483939393939393939394D3939393939393939392E39393939393939393953" ∷
+    line "unper;DURATION;DF821DCD64FFC10EE6B27FE08773593FF043B9AC9FF821DCD64FFC10EE6B27FE0213043B9AC9FF" 0
+    "0 P999999999Y999999999M999999999DT999999999H999999999M999999999.999999999S" ∷
+    []
+
+durations-checked : allRight durations ≡ true
+unfolding durations allRight
+durations-checked = refl

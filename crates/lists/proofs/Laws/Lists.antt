@@ -9,7 +9,7 @@ use lib.ListN.{length, take, drop, length-drop}
 use lib.Seq.{drop-drop, take-all}
 use Rattle.octets.specs.Pieces.{splitOn, spanTo}
 use Rattle.octets.proofs.Laws.Pieces.{span-le, split-one, split-more}
-use Rattle.lists.specs.Words.{placeIn, basicWords, dateWords, yearWords, clockWords, fractionNumber, firstNumber, pair, firstOf, pairOf}
+use Rattle.lists.specs.Words.{placeIn, basicWords, dateWords, yearWords, clockWords, zoneWords, fractionNumber, firstNumber, pair, firstOf, pairOf}
 use Rattle.lists.specs.Lists.{addPair, addPairs}
 use Rattle.lists.specs.declared.words.Pair.{Pair}
 use Rattle.lists.specs.declared.lists.Settings.{Settings}
@@ -24,16 +24,16 @@ first-of P p q h k = go (eqb (p .setting) 0) where
 -- What holds of a setting of each property holds of every pair.
 pub every-pair : (P : Pair → Type 0) (l : List ℕ) →
     P (pair 0 (placeIn basicWords l)) → P (pair 1 (placeIn dateWords l)) → P (pair 2 (placeIn yearWords l)) →
-    P (pair 3 (firstNumber (placeIn clockWords l) (fractionNumber l))) → ((n : ℕ) → P (pair 4 n)) →
+    P (pair 3 (firstNumber (placeIn clockWords l) (fractionNumber l))) → P (pair 4 (placeIn zoneWords l)) → ((n : ℕ) → P (pair 5 n)) →
     P (pairOf l)
 unfolding pairOf
-every-pair P l b d y t z =
-    first-of P _ _ b (first-of P _ _ d (first-of P _ _ y (first-of P _ _ t (z _))))
+every-pair P l b d y t z i =
+    first-of P _ _ b (first-of P _ _ d (first-of P _ _ y (first-of P _ _ t (first-of P _ _ z (i _)))))
 
--- A pair is of one of the five properties.
-pub five-properties : (l : List ℕ) → pairOf l .property < 5
-five-properties l =
-    every-pair (λ p. p .property < 5) l (omega arith) (omega arith) (omega arith) (omega arith) (λ n. omega arith)
+-- A pair is of one of the six properties.
+pub six-properties : (l : List ℕ) → pairOf l .property < 6
+six-properties l =
+    every-pair (λ p. p .property < 6) l (omega arith) (omega arith) (omega arith) (omega arith) (omega arith) (λ n. omega arith)
 
 -- One turn of the loop over the pairs: from the place p to the place e of the next space.
 module _ (s : List ℕ) (p e : ℕ) (n m : Settings) (q : Pair) (he : e ≡ p + spanTo 32 (drop p s)) (hq : q ≡ pairOf (take (e - p) (drop p s)))

@@ -12,7 +12,7 @@ use Rattle.lists.specs.Words.{pairOf}
 use Rattle.lists.specs.Lists.{settings, refusedList, addPair, addPairs}
 use Rattle.lists.specs.declared.words.Pair.{Pair}
 use Rattle.lists.specs.declared.lists.Settings.{Settings}
-use Rattle.lists.proofs.Laws.Lists.{five-properties}
+use Rattle.lists.proofs.Laws.Lists.{six-properties}
 
 -- Whether a pair is one more setting.
 abbrev fresh : List ℕ → Pair → Bool
@@ -51,7 +51,7 @@ add-two true ns p q true false e g n = rw (e, g, getD-set-other ns (p .property)
 add-two true ns p q false true e g n = rw (e, g, getD-set-other ns (q .property) (p .property) (q .setting) 0 n, e)
 add-two true ns p q false false e g n = rw (e, g)
 
-add-comm : (s : Settings) (p q : Pair) → length (s .numbers) ≡ 5 → p .property < 5 → q .property < 5 →
+add-comm : (s : Settings) (p q : Pair) → length (s .numbers) ≡ 6 → p .property < 6 → q .property < 6 →
     addPair (addPair s p) q ≡ addPair (addPair s q) p
 add-comm s p q l hp hq = go (eqb (p .property) (q .property)) refl where
   go : (t : Bool) → eqb (p .property) (q .property) ≡ t → addPair (addPair s p) q ≡ addPair (addPair s q) p
@@ -61,18 +61,18 @@ add-comm s p q l hp hq = go (eqb (p .property) (q .property)) refl where
       ∙ sym (add-twice (s .readable) (s .numbers) q p _ refl (sym h) (omega arith))
   go false e = add-two (s .readable) (s .numbers) p q _ _ refl refl (eqb-false _ _ e)
 
-add-length : (s : Settings) (p : Pair) → length (s .numbers) ≡ 5 → length (addPair s p .numbers) ≡ 5
+add-length : (s : Settings) (p : Pair) → length (s .numbers) ≡ 6 → length (addPair s p .numbers) ≡ 6
 unfolding addPair
 add-length s p e = go (s .readable && fresh (s .numbers) p) where
-  go : (t : Bool) → length (cond t (settings (set (s .numbers) (p .property) (p .setting))) refusedList .numbers) ≡ 5
+  go : (t : Bool) → length (cond t (settings (set (s .numbers) (p .property) (p .setting))) refusedList .numbers) ≡ 6
   go true = length-set (s .numbers) (p .property) (p .setting) ∙ e
   go false = refl
 
 -- Pairs in another order give the same list.
-pub pairs-perm : {a b : List (List ℕ)} (s : Settings) → length (s .numbers) ≡ 5 → List·Permᴰ a b → addPairs s a ≡ addPairs s b
+pub pairs-perm : {a b : List (List ℕ)} (s : Settings) → length (s .numbers) ≡ 6 → List·Permᴰ a b → addPairs s a ≡ addPairs s b
 unfolding addPairs
 pairs-perm s l List·Permᴰ·nil = refl
 pairs-perm s l (List·Permᴰ·cons {b = b} e d) = rw e (pairs-perm (addPair s (pairOf b)) (add-length s (pairOf b) l) d)
 pairs-perm s l (List·Permᴰ·swap {a = a} {b = b} {l = r} e g) =
-    rw (← e, ← g) (ap (λ (z : Settings). addPairs z r) (add-comm s (pairOf a) (pairOf b) l (five-properties a) (five-properties b)))
+    rw (← e, ← g) (ap (λ (z : Settings). addPairs z r) (add-comm s (pairOf a) (pairOf b) l (six-properties a) (six-properties b)))
 pairs-perm s l (List·Permᴰ·trans d e) = pairs-perm s l d ∙ pairs-perm s l e

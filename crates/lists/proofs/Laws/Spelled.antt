@@ -11,17 +11,18 @@ use lib.Seq.{take-suc, take-all}
 use borrow.Author.Tests.{leb-true, le-leb, ne-eqb}
 use Rattle.octets.specs.Octets.{bytes, eqList}
 use Rattle.octets.proofs.Laws.Octets.{equal}
-use Rattle.lists.specs.Words.{placeFrom, placeIn, basicWords, dateWords, yearWords, clockWords, fractionWords, zoneWords, withDigits, fractionNumber}
-use Rattle.lists.specs.Words.{firstNumber, pair, pairOf}
+use Rattle.lists.specs.Words.{placeFrom, placeIn, basicWords, dateWords, yearWords, clockWords, fractionWords, zoneWords, intervalWords}
+use Rattle.lists.specs.Words.{withDigits, fractionNumber, firstNumber, pair, pairOf}
 use Rattle.lists.specs.declared.words.Pair.{Pair}
 use Rattle.lists.proofs.Laws.Lists.{first-of}
 
 -- The words, each with its property and the number of its setting: there are no others.
 pub data Word : List ℕ → Pair → Type 0 where
-  -- "`Basic`: Date, Time, Date-Time."
+  -- "`Basic`: Date, Time, Date-Time", and "`Basic=Interval`" (#101).
   basic-date : Word (bytes "Basic=Date") (pair 0 1)
   basic-time : Word (bytes "Basic=Time") (pair 0 2)
   basic-date-time : Word (bytes "Basic=Date-Time") (pair 0 3)
+  basic-interval : Word (bytes "Basic=Interval") (pair 0 4)
   -- "`Date`: Y, YM, YMD, YD, YW, YWD."
   date-Y : Word (bytes "Date=Y") (pair 1 1)
   date-YM : Word (bytes "Date=YM") (pair 1 2)
@@ -46,6 +47,8 @@ pub data Word : List ℕ → Pair → Type 0 where
   zone-L : Word (bytes "Local-or-UTC=L") (pair 4 1)
   zone-Z : Word (bytes "Local-or-UTC=Z") (pair 4 2)
   zone-LD : Word (bytes "Local-or-UTC=LD") (pair 4 3)
+  -- "`Interval-type=D`" (#101).
+  interval-D : Word (bytes "Interval-type=D") (pair 5 1)
 
 -- ---- what is read is a word
 
@@ -71,7 +74,8 @@ module _ (w : List ℕ) where
   basic-spelled =
       place-case w (Spelled-in 0) 1 "Basic=Date" _ (λ e h. rw e basic-date)
       (place-case w (Spelled-in 0) 2 "Basic=Time" _ (λ e h. rw e basic-time)
-      (place-case w (Spelled-in 0) 3 "Basic=Date-Time" _ (λ e h. rw e basic-date-time) (no-place w 0 4)))
+      (place-case w (Spelled-in 0) 3 "Basic=Date-Time" _ (λ e h. rw e basic-date-time)
+      (place-case w (Spelled-in 0) 4 "Basic=Interval" _ (λ e h. rw e basic-interval) (no-place w 0 5))))
 
   date-spelled : Spelled-in 1 (placeIn dateWords w)
   date-spelled =
@@ -100,6 +104,9 @@ module _ (w : List ℕ) where
       place-case w (Spelled-in 4) 1 "Local-or-UTC=L" _ (λ e h. rw e zone-L)
       (place-case w (Spelled-in 4) 2 "Local-or-UTC=Z" _ (λ e h. rw e zone-Z)
       (place-case w (Spelled-in 4) 3 "Local-or-UTC=LD" _ (λ e h. rw e zone-LD) (no-place w 4 4)))
+
+  interval-spelled : Spelled-in 5 (placeIn intervalWords w)
+  interval-spelled = place-case w (Spelled-in 5) 1 "Interval-type=D" _ (λ e h. rw e interval-D) (no-place w 5 2)
 
 -- A fraction word with one digit behind it.
 last-apart : (w : List ℕ) → 0 < length w → w ≡ take (length w - 1) w ++ getD w (length w - 1) 0 ∷ []
@@ -171,7 +178,8 @@ word-spelled w =
     first-of P _ _ (basic-spelled w)
     (first-of P _ _ (date-spelled w)
     (first-of P _ _ (year-spelled w)
-    (first-of P _ _ (or-else w (placeIn clockWords w) (fractionNumber w) (clock-spelled w) (fraction-spelled w)) (zone-spelled w))))
+    (first-of P _ _ (or-else w (placeIn clockWords w) (fractionNumber w) (clock-spelled w) (fraction-spelled w))
+    (first-of P _ _ (zone-spelled w) (interval-spelled w)))))
   where
     P : Pair → Type 0
     P p = 0 < p .setting → Word w p
@@ -182,6 +190,7 @@ unfolding pairOf placeFrom eqList fractionNumber
 word-read w p basic-date = refl
 word-read w p basic-time = refl
 word-read w p basic-date-time = refl
+word-read w p basic-interval = refl
 word-read w p date-Y = refl
 word-read w p date-YM = refl
 word-read w p date-YMD = refl
@@ -204,3 +213,4 @@ word-read w p (time-HMSF n h k) =
 word-read w p zone-L = refl
 word-read w p zone-Z = refl
 word-read w p zone-LD = refl
+word-read w p interval-D = refl

@@ -14,7 +14,7 @@ use Rattle.octets.specs.Octets.{bytes, eqList}
 use Rattle.octets.proofs.Laws.Cases.{by-test, both, cond-le}
 use Rattle.octets.proofs.Laws.Octets.{equal}
 use Rattle.lists.specs.Words.{Has, Table, counted, firstNumber, firstOf, fractionNumber, pair, pairOf, placeFrom, placeIn}
-use Rattle.lists.specs.Words.{basicWords, clockWords, dateWords, fractionWords, yearWords, zoneWords}
+use Rattle.lists.specs.Words.{basicWords, clockWords, dateWords, fractionWords, intervalWords, yearWords, zoneWords}
 
 -- What a table of m words holds from a place on, behind k of them: words among which the text has the place n.
 pub record Left (t l : List ℕ) (m at k n : ℕ) : Type 0 where
@@ -146,9 +146,9 @@ where-first l b n = cond (eqb (getD l 0 0) b) n 0
 only-first : (l : List ℕ) (b n : ℕ) → ((getD l 0 0 ≡ b → ⊥) → n ≡ 0) → where-first l b n ≡ n
 only-first l b n h = by-test (eqb (getD l 0 0) b) (λ e. rw e) (λ e. rw e (sym (h (eqb-false _ _ e))))
 
--- A place among the words of Local-or-UTC is one of a text that begins with L.
-pub zone-first : (l : List ℕ) → where-first l 76 (placeIn zoneWords l) ≡ placeIn zoneWords l
-zone-first l = only-first l 76 _ (other-words 76 1 zoneWords l refl)
+-- A place among the words of Interval-type is one of a text that begins with I.
+pub interval-first : (l : List ℕ) → where-first l 73 (placeIn intervalWords l) ≡ placeIn intervalWords l
+interval-first l = only-first l 73 _ (other-words 73 1 intervalWords l refl)
 
 -- The first octet of a text tells the only table that it can have a place in.
 pub only-table : (l : List ℕ) → pairOf l ≡
@@ -156,7 +156,8 @@ pub only-table : (l : List ℕ) → pairOf l ≡
     (firstOf (pair 1 (where-first l 68 (placeIn dateWords l)))
     (firstOf (pair 2 (where-first l 89 (placeIn yearWords l)))
     (firstOf (pair 3 (where-first l 84 (firstNumber (placeIn clockWords l) (fractionNumber l))))
-    (pair 4 (where-first l 76 (placeIn zoneWords l))))))
+    (firstOf (pair 4 (where-first l 76 (placeIn zoneWords l)))
+    (pair 5 (where-first l 73 (placeIn intervalWords l)))))))
 unfolding pairOf
 only-table l =
     rw (
@@ -164,5 +165,6 @@ only-table l =
       only-first l 68 _ (other-words 68 1 dateWords l refl),
       only-first l 89 _ (other-words 89 1 yearWords l refl),
       only-first l 84 _ (no-time l),
-      zone-first l,
+      only-first l 76 _ (other-words 76 1 zoneWords l refl),
+      interval-first l,
     )

@@ -5,7 +5,7 @@ use mathlib.Core.List.{List}
 use Prim.Native.Nat.{ℕ, _≤_}
 use lib.ListN.{length}
 use native.Mathlib.Omega.{arith}
-use Rattle.octets.specs.Found.{Found, found, nothing}
+use Rattle.octets.specs.Found.{Found, found, nothing, ofFound}
 use Rattle.answers.specs.Outcomes.{Answer, done}
 use Rattle.answers.specs.declared.counts.Bits.{Bits}
 use Rattle.texts.specs.Times.{canonical}
@@ -28,13 +28,13 @@ use Rattle.kinds.specs.Coding.{judgedAs}
 use Rattle.kinds.specs.Lawful.{Accepted, Holds, Lawful}
 use Rattle.kinds.proofs.Laws.Coding as Coding
 use Rattle.held_values.proofs.Laws.Encodings.{admissionAnswer, answerWith, decoded-short, encoded-admitted, held-by, judged-as, text-read}
-use Rattle.per.specs.Per.{ofBits, encodingOf, inPer, per, perEncoded, perDecoded}
+use Rattle.per.specs.Per.{encodingOf, inPer, per, perEncoded, perDecoded}
 use Rattle.per.proofs.Laws.Carried.{held-carried}
 use Rattle.per.proofs.Laws.Packed.{encoding-short}
 
-octets-read : (t : Ty) (v : Value) → Holds per t v → ofBits (readOctets (yearRowOf t) (formOf t) (encodingOf (yearRowOf t) v)) ≡ some v
+octets-read : (t : Ty) (v : Value) → Holds per t v → ofFound (readOctets (yearRowOf t) (formOf t) (encodingOf (yearRowOf t) v)) ≡ some v
 unfolding encodingOf
-octets-read t v h = rw (← in-type t v (h .inside) .0) (ap ofBits (read-octets (yearRowOf t) v (held-carried t v (held-by inPer t v h))))
+octets-read t v h = rw (← in-type t v (h .inside) .0) (ap ofFound (read-octets (yearRowOf t) v (held-carried t v (held-by inPer t v h))))
 
 pub per-lawful : Lawful per
 per-lawful = record { text-own = λ t v h. text-read inPer t v h canonical; octets-own = octets-read }
@@ -48,19 +48,19 @@ pub per-one-encoding : (t : Ty) (a b : Value) → Holds per t a → Holds per t 
 per-one-encoding t a b h k e = Coding.one-encoding per per-lawful t a b h k e
 
 -- A value is read exactly where a loose spelling of it stands in front, whatever follows.
-pub per-reads : (row : YearRow) (form : Form) (octets : List ℕ) (v : Value) → ofBits (readOctets row form octets) ≡ some v
+pub per-reads : (row : YearRow) (form : Form) (octets : List ℕ) (v : Value) → ofFound (readOctets row form octets) ≡ some v
     → (rest : BitString) × ReadableBits row form v (unpacked octets) rest
 unfolding readOctets
 per-reads row form octets v e = go (readOctets row form octets) refl e
   where
-    go : (g : Found Bool Value) → readOctets row form octets ≡ g → ofBits g ≡ some v → (rest : BitString) × ReadableBits row form v (unpacked octets) rest
+    go : (g : Found Bool Value) → readOctets row form octets ≡ g → ofFound g ≡ some v → (rest : BitString) × ReadableBits row form v (unpacked octets) rest
     go (found w rest) r e = let q : w ≡ v = cc in (rest, reads-only row form v (unpacked octets) rest (rw (← q) r))
     go nothing r e = absurd (let z : _≡_ {A = ℕ} 0 1 = cc in omega arith)
 
 pub per-reads-all : (row : YearRow) (form : Form) (octets : List ℕ) (v : Value) (rest : BitString) → ReadableBits row form v (unpacked octets) rest
-    → ofBits (readOctets row form octets) ≡ some v
+    → ofFound (readOctets row form octets) ≡ some v
 unfolding readOctets
-per-reads-all row form octets v rest r = ap ofBits (reads-all row form v (unpacked octets) rest r)
+per-reads-all row form octets v rest r = ap ofFound (reads-all row form v (unpacked octets) rest r)
 
 -- ---- as the code has it
 
@@ -69,7 +69,7 @@ abbrev pub ofRead : ValueRead → Option Value
 ofRead (ValueRead.Value v) = some v
 ofRead ValueRead.Nothing = none
 
-pub bits-read : (g : Found Bool Value) → ofBits g ≡ ofRead (valueIn g)
+pub bits-read : (g : Found Bool Value) → ofFound g ≡ ofRead (valueIn g)
 bits-read (found v rest) = refl
 bits-read nothing = refl
 

@@ -83,7 +83,7 @@ clock-length (Clock.H h) = simp length-put (omega arith)
 clock-length (Clock.HM h m) = simp (length-append, length-put) (omega arith)
 clock-length (Clock.HMS h m s) = simp (length-append, length-put) (omega arith)
 
-fraction-length : (n : ℕ) (f : Fraction) → n ≤ 9 → length (putFraction n f) ≤ 10
+pub fraction-length : (n : ℕ) (f : Fraction) → n ≤ 9 → length (putFraction n f) ≤ 10
 unfolding putFraction
 fraction-length n f h = both (λ (t : List ℕ). length t ≤ 10) (eqb n 0) (omega arith) (simp length-put (omega arith))
 

@@ -2,7 +2,7 @@
 use mathlib.Core.Path.{_≡_, refl, ap, sym, _∙_, subst}
 use mathlib.Core.List.{List, [], _∷_, _++_, List·Permᴰ, List·Permᴰ·cons, List·Permᴰ·swap, List·Permᴰ·trans, Permᴰ·refl, Permᴰ·symm, Permᴰ·middle}
 use mathlib.Core.List.{Permᴰ·append-left}
-use mathlib.Core.Bool.{Bool, true, false, _&&_, not, cond, false≢true}
+use mathlib.Core.Bool.{Bool, true, false, _&&_, not, cond, and-eq-true-iff, false≢true}
 use Prim.Native.Nat.{ℕ, zero, suc, _+_, _<_, _≤_}
 use native.Mathlib.Omega.{arith}
 use lib.Dec.{eqb, ltb}
@@ -11,24 +11,28 @@ use borrow.Author.Tests.{ltb-true, eqb-true}
 use Rattle.octets.specs.Octets.{bytes}
 use Rattle.octets.specs.Pieces.{splitOn}
 use Rattle.lists.specs.Words.{pair, pairOf}
-use Rattle.lists.specs.Lists.{settings, noneYet, refusedList, addPair, addPairs, datedList, timedList, presentIf, complete, completed, listOf}
+use Rattle.lists.specs.Lists.{settings, noneYet, refusedList, addPair, addPairs, datedList, timedList, intervalList, presentIf, complete}
+use Rattle.lists.specs.Lists.{completed, listOf}
 use Rattle.lists.specs.declared.words.Pair.{Pair}
 use Rattle.lists.specs.declared.lists.Settings.{Settings}
-use Rattle.lists.proofs.Laws.Lists.{five-properties}
+use Rattle.lists.proofs.Laws.Lists.{six-properties}
 use Rattle.texts.specs.declared.forms.DateForm.{DateForm}
 use Rattle.texts.specs.declared.forms.ClockForm.{ClockForm}
 use Rattle.texts.specs.declared.forms.TimeForm.{TimeForm}
 use Rattle.texts.specs.declared.forms.ZoneForm.{ZoneForm}
 use Rattle.types.specs.Numbers.{dateNumber, zoneNumber}
-use Rattle.type_texts.specs.Written.{YearSetting, dateWord, yearWord, timeWord, zoneWord, datePairs, timePairs, dateTimePairs}
-use Rattle.type_texts.proofs.Laws.Written.{yearNumber, timeCode, dateList, timeList, dateTimeList}
-use Rattle.type_texts.proofs.Laws.Words.{SettingWord, basic-date, basic-time, basic-date-time, date, year, time, zone, setting-spelled, pairs-read}
+use Rattle.type_texts.specs.Written.{YearSetting, dateWord, yearWord, timeWord, zoneWord, datePairs, timePairs, dateTimePairs, durationPairs}
+use Rattle.type_texts.proofs.Laws.Written.{yearNumber, timeCode, dateList, timeList, dateTimeList, durationList}
+use Rattle.type_texts.proofs.Laws.Tests.{five-hold}
+use Rattle.type_texts.proofs.Laws.Words.{SettingWord, basic-date, basic-time, basic-date-time, basic-interval, date, year, time, zone, interval}
+use Rattle.type_texts.proofs.Laws.Words.{setting-spelled, pairs-read}
 
--- The pieces of a list and its settings: those of a date, of a time, or of both.
+-- The pieces of a list and its settings: those of a date, of a time, of both, or of durations.
 pub data ListOf (ws : List (List ℕ)) (s : Settings) : Type 0 where
   a-date : (f : DateForm) (y : YearSetting) → List·Permᴰ ws (datePairs f y) → s ≡ dateList f y → ListOf ws s
   a-time : (t : TimeForm) → t .digits ≤ 9 → List·Permᴰ ws (timePairs t) → s ≡ timeList t → ListOf ws s
   a-date-time : (f : DateForm) (t : TimeForm) (y : YearSetting) → t .digits ≤ 9 → List·Permᴰ ws (dateTimePairs f t y) → s ≡ dateTimeList f t y → ListOf ws s
+  a-duration : List·Permᴰ ws durationPairs → s ≡ durationList → ListOf ws s
 
 -- ---- the words of numbers, from the property k on
 
@@ -75,16 +79,16 @@ added s p = go (s .readable) (ltb 0 (p .setting)) (eqb (getD (s .numbers) (p .pr
     go true false c e f g h = absurd (false≢true h)
     go false b c e f g h = absurd (false≢true h)
 
-pairs-shown : (s : Settings) (ws us : List (List ℕ)) → length (s .numbers) ≡ 5 → Shown 0 (s .numbers) us → addPairs s ws .readable ≡ true
+pairs-shown : (s : Settings) (ws us : List (List ℕ)) → length (s .numbers) ≡ 6 → Shown 0 (s .numbers) us → addPairs s ws .readable ≡ true
     → More 0 (addPairs s ws .numbers) (ws ++ us)
 unfolding addPairs
 pairs-shown s [] us l r h = record { words = us; shown = r; perm = Permᴰ·refl us }
 pairs-shown s (w ∷ ws) us l r h =
     let a = added s (pairOf w) (pairs-read (addPair s (pairOf w)) ws h) in
-    let five = five-properties w in
+    let six = six-properties w in
     let m = put (pairOf w .property) 0 (s .numbers) us w (pairOf w .setting) (pairOf w .property) (omega arith) (a .some) (omega arith) (a .fresh)
     (setting-spelled w (a .some)) r in
-    let k : length (addPair s (pairOf w) .numbers) ≡ 5 = ap length (a .numbers-are) ∙ length-set (s .numbers) (pairOf w .property) (pairOf w .setting) ∙ l in
+    let k : length (addPair s (pairOf w) .numbers) ≡ 6 = ap length (a .numbers-are) ∙ length-set (s .numbers) (pairOf w .property) (pairOf w .setting) ∙ l in
     let i = pairs-shown (addPair s (pairOf w)) ws (m .words) k (subst (λ (ns : List ℕ). Shown 0 ns (m .words)) (sym (a .numbers-are)) (m .shown)) h in
     record {
       words = i .words;
@@ -92,13 +96,13 @@ pairs-shown s (w ∷ ws) us l r h =
       perm = List·Permᴰ·trans (Permᴰ·symm (Permᴰ·middle w ws us)) (List·Permᴰ·trans (Permᴰ·append-left ws (m .perm)) (i .perm));
     }
 
-pairs-length : (s : Settings) (ws : List (List ℕ)) → length (s .numbers) ≡ 5 → length (addPairs s ws .numbers) ≡ 5
+pairs-length : (s : Settings) (ws : List (List ℕ)) → length (s .numbers) ≡ 6 → length (addPairs s ws .numbers) ≡ 6
 unfolding addPairs addPair
 pairs-length s [] l = l
 pairs-length s (w ∷ ws) l = pairs-length (addPair s (pairOf w)) ws (go
     (s .readable && (ltb 0 (pairOf w .setting) && eqb (getD (s .numbers) (pairOf w .property) 0) 0)))
   where
-    go : (b : Bool) → length (cond b (settings (set (s .numbers) (pairOf w .property) (pairOf w .setting))) refusedList .numbers) ≡ 5
+    go : (b : Bool) → length (cond b (settings (set (s .numbers) (pairOf w .property) (pairOf w .setting))) refusedList .numbers) ≡ 6
     go true = length-set (s .numbers) (pairOf w .property) (pairOf w .setting) ∙ l
     go false = refl
 
@@ -108,15 +112,18 @@ data BasicIs : List ℕ → ℕ → Type 0 where
   one : BasicIs (bytes "Basic=Date") 1
   two : BasicIs (bytes "Basic=Time") 2
   three : BasicIs (bytes "Basic=Date-Time") 3
+  four : BasicIs (bytes "Basic=Interval") 4
 
 basic-is : (w : List ℕ) (q : Pair) → SettingWord w q → q .property ≡ 0 → BasicIs w (q .setting)
 basic-is w q basic-date e = one
 basic-is w q basic-time e = two
 basic-is w q basic-date-time e = three
+basic-is w q basic-interval e = four
 basic-is w q (date f) e = absurd (omega arith)
 basic-is w q (year y) e = absurd (omega arith)
 basic-is w q (time c n h) e = absurd (omega arith)
 basic-is w q (zone z) e = absurd (omega arith)
+basic-is w q interval e = absurd (omega arith)
 
 data DateIs : List ℕ → ℕ → Type 0 where
   date-of : (f : DateForm) → DateIs (dateWord f) (dateNumber f)
@@ -125,10 +132,12 @@ date-is : (w : List ℕ) (q : Pair) → SettingWord w q → q .property ≡ 1 �
 date-is w q basic-date e = absurd (omega arith)
 date-is w q basic-time e = absurd (omega arith)
 date-is w q basic-date-time e = absurd (omega arith)
+date-is w q basic-interval e = absurd (omega arith)
 date-is w q (date f) e = date-of f
 date-is w q (year y) e = absurd (omega arith)
 date-is w q (time c n h) e = absurd (omega arith)
 date-is w q (zone z) e = absurd (omega arith)
+date-is w q interval e = absurd (omega arith)
 
 data YearIs : List ℕ → ℕ → Type 0 where
   year-of : (y : YearSetting) → YearIs (yearWord y) (yearNumber y)
@@ -137,10 +146,12 @@ year-is : (w : List ℕ) (q : Pair) → SettingWord w q → q .property ≡ 2 �
 year-is w q basic-date e = absurd (omega arith)
 year-is w q basic-time e = absurd (omega arith)
 year-is w q basic-date-time e = absurd (omega arith)
+year-is w q basic-interval e = absurd (omega arith)
 year-is w q (date f) e = absurd (omega arith)
 year-is w q (year y) e = year-of y
 year-is w q (time c n h) e = absurd (omega arith)
 year-is w q (zone z) e = absurd (omega arith)
+year-is w q interval e = absurd (omega arith)
 
 data TimeIs : List ℕ → ℕ → Type 0 where
   time-of : (c : ClockForm) (n : ℕ) → n ≤ 9 → TimeIs (timeWord c n) (timeCode c n)
@@ -149,10 +160,12 @@ time-is : (w : List ℕ) (q : Pair) → SettingWord w q → q .property ≡ 3 �
 time-is w q basic-date e = absurd (omega arith)
 time-is w q basic-time e = absurd (omega arith)
 time-is w q basic-date-time e = absurd (omega arith)
+time-is w q basic-interval e = absurd (omega arith)
 time-is w q (date f) e = absurd (omega arith)
 time-is w q (year y) e = absurd (omega arith)
 time-is w q (time c n h) e = time-of c n h
 time-is w q (zone z) e = absurd (omega arith)
+time-is w q interval e = absurd (omega arith)
 
 data ZoneIs : List ℕ → ℕ → Type 0 where
   zone-of : (z : ZoneForm) → ZoneIs (zoneWord z) (zoneNumber z)
@@ -161,20 +174,35 @@ zone-is : (w : List ℕ) (q : Pair) → SettingWord w q → q .property ≡ 4 �
 zone-is w q basic-date e = absurd (omega arith)
 zone-is w q basic-time e = absurd (omega arith)
 zone-is w q basic-date-time e = absurd (omega arith)
+zone-is w q basic-interval e = absurd (omega arith)
 zone-is w q (date f) e = absurd (omega arith)
 zone-is w q (year y) e = absurd (omega arith)
 zone-is w q (time c n h) e = absurd (omega arith)
 zone-is w q (zone z) e = zone-of z
+zone-is w q interval e = absurd (omega arith)
+
+data IntervalIs : List ℕ → ℕ → Type 0 where
+  duration-alone : IntervalIs (bytes "Interval-type=D") 1
+
+interval-is : (w : List ℕ) (q : Pair) → SettingWord w q → q .property ≡ 5 → IntervalIs w (q .setting)
+interval-is w q basic-date e = absurd (omega arith)
+interval-is w q basic-time e = absurd (omega arith)
+interval-is w q basic-date-time e = absurd (omega arith)
+interval-is w q basic-interval e = absurd (omega arith)
+interval-is w q (date f) e = absurd (omega arith)
+interval-is w q (year y) e = absurd (omega arith)
+interval-is w q (time c n h) e = absurd (omega arith)
+interval-is w q (zone z) e = absurd (omega arith)
+interval-is w q interval e = duration-alone
 
 -- ---- a complete list
 
-five-hold : (a b c d e : Bool) → a && b && c && d && e ≡ true → (a ≡ true) × (b ≡ true) × (c ≡ true) × (d ≡ true) × (e ≡ true)
-five-hold true true true true true h = (refl, refl, refl, refl, refl)
-five-hold true true true true false h = absurd (false≢true h)
-five-hold true true true false e h = absurd (false≢true h)
-five-hold true true false d e h = absurd (false≢true h)
-five-hold true false c d e h = absurd (false≢true h)
-five-hold false b c d e h = absurd (false≢true h)
+six-hold : (a b c d e f : Bool) → a && b && c && d && e && f ≡ true
+    → (a ≡ true) × (b ≡ true) × (c ≡ true) × (d ≡ true) × (e ≡ true) × (f ≡ true)
+six-hold a b c d e f h =
+    let p = and-eq-true-iff (a && b && c && d && e) f .0 h in
+    let q = five-hold a b c d e (p .0) in
+    (q .0, q .1, q .2, q .3, q .4, p .1)
 
 -- What has no place is not there.
 not-there : (n : ℕ) → 0 < n → presentIf false n ≡ true → ⊥
@@ -194,86 +222,115 @@ skips k n ns ws p (has i u x) = absurd (not-there n i p)
 stops : (k : ℕ) (ws : List (List ℕ)) → Shown k [] ws → ws ≡ []
 stops k ws (end j) = refl
 
-as-date : (w₁ w₂ : List ℕ) (ws : List (List ℕ)) (d y t z : ℕ) → ws ≡ w₁ ∷ w₂ ∷ [] → t ≡ 0 → z ≡ 0 → DateIs w₁ d → YearIs w₂ y
-    → ListOf (bytes "Basic=Date" ∷ ws) (settings (1 ∷ d ∷ y ∷ t ∷ z ∷ []))
-as-date w₁ w₂ ws d y t z e i j (date-of f) (year-of g) = rw (e, i, j) (a-date f g (Permᴰ·refl _) refl)
+-- Words that come one after the other.
+four-words : {w₁ w₂ w₃ w₄ : List ℕ} {l₀ l₁ l₂ l₃ l₄ : List (List ℕ)} → l₀ ≡ w₁ ∷ l₁ → l₁ ≡ w₂ ∷ l₂ → l₂ ≡ w₃ ∷ l₃ → l₃ ≡ w₄ ∷ l₄ → l₄ ≡ []
+    → l₀ ≡ w₁ ∷ w₂ ∷ w₃ ∷ w₄ ∷ []
+four-words e₁ e₂ e₃ e₄ e₅ = rw (e₁, e₂, e₃, e₄, e₅)
 
-as-time : (w₁ w₂ : List ℕ) (ws : List (List ℕ)) (d y t z : ℕ) → ws ≡ w₁ ∷ w₂ ∷ [] → d ≡ 0 → y ≡ 0 → TimeIs w₁ t → ZoneIs w₂ z
-    → ListOf (bytes "Basic=Time" ∷ ws) (settings (2 ∷ d ∷ y ∷ t ∷ z ∷ []))
-as-time w₁ w₂ ws d y t z e i j (time-of c n h) (zone-of g) = rw (e, i, j) (a-time (record { clock = c; digits = n; zone = g }) h (Permᴰ·refl _) refl)
+as-date : (w₁ w₂ : List ℕ) (ws : List (List ℕ)) (d y t z i : ℕ) → ws ≡ w₁ ∷ w₂ ∷ [] → t ≡ 0 → z ≡ 0 → i ≡ 0 → DateIs w₁ d → YearIs w₂ y
+    → ListOf (bytes "Basic=Date" ∷ ws) (settings (1 ∷ d ∷ y ∷ t ∷ z ∷ i ∷ []))
+as-date w₁ w₂ ws d y t z i e j k l (date-of f) (year-of g) = rw (e, j, k, l) (a-date f g (Permᴰ·refl _) refl)
 
-as-both : (w₁ w₂ w₃ w₄ : List ℕ) (d y t z : ℕ) → DateIs w₁ d → YearIs w₂ y → TimeIs w₃ t → ZoneIs w₄ z
-    → ListOf (bytes "Basic=Date-Time" ∷ w₁ ∷ w₂ ∷ w₃ ∷ w₄ ∷ []) (settings (3 ∷ d ∷ y ∷ t ∷ z ∷ []))
-as-both w₁ w₂ w₃ w₄ d y t z (date-of f) (year-of g) (time-of c n h) (zone-of v) = a-date-time f (record { clock = c; digits = n; zone = v }) g h
-    (Permᴰ·refl _) refl
+as-time : (w₁ w₂ : List ℕ) (ws : List (List ℕ)) (d y t z i : ℕ) → ws ≡ w₁ ∷ w₂ ∷ [] → d ≡ 0 → y ≡ 0 → i ≡ 0 → TimeIs w₁ t → ZoneIs w₂ z
+    → ListOf (bytes "Basic=Time" ∷ ws) (settings (2 ∷ d ∷ y ∷ t ∷ z ∷ i ∷ []))
+as-time w₁ w₂ ws d y t z i e j k l (time-of c n h) (zone-of g) =
+    rw (e, j, k, l) (a-time (record { clock = c; digits = n; zone = g }) h (Permᴰ·refl _) refl)
 
-module _ (d y t z : ℕ) (ws : List (List ℕ)) (x : Shown 1 (d ∷ y ∷ t ∷ z ∷ []) ws) where
-  dated-list : presentIf true d ≡ true → presentIf true y ≡ true → presentIf false t ≡ true → presentIf false z ≡ true
-      → ListOf (bytes "Basic=Date" ∷ ws) (settings (1 ∷ d ∷ y ∷ t ∷ z ∷ []))
-  dated-list p q r s =
-      let a = needs 1 d (y ∷ t ∷ z ∷ []) ws p x in
-      let b = needs 2 y (t ∷ z ∷ []) (a .1) q (a .4) in
-      let c = skips 3 t (z ∷ []) (b .1) r (b .4) in
-      let e = skips 4 z [] (b .1) s (c .1) in
-      let f : ws ≡ a .0 ∷ b .0 ∷ [] = a .3 ∙ ap (λ (l : List (List ℕ)). a .0 ∷ l) (b .3 ∙ ap (λ (l : List (List ℕ)). b .0 ∷ l) (stops 5 (b .1) (e .1))) in
-      as-date (a .0) (b .0) ws d y t z f (c .0) (e .0) (date-is (a .0) (pair 1 d) (a .2) refl) (year-is (b .0) (pair 2 y) (b .2) refl)
+as-both : (w₁ w₂ w₃ w₄ : List ℕ) (ws : List (List ℕ)) (d y t z i : ℕ) → ws ≡ w₁ ∷ w₂ ∷ w₃ ∷ w₄ ∷ [] → i ≡ 0
+    → DateIs w₁ d → YearIs w₂ y → TimeIs w₃ t → ZoneIs w₄ z
+    → ListOf (bytes "Basic=Date-Time" ∷ ws) (settings (3 ∷ d ∷ y ∷ t ∷ z ∷ i ∷ []))
+as-both w₁ w₂ w₃ w₄ ws d y t z i e l (date-of f) (year-of g) (time-of c n h) (zone-of v) =
+    rw (e, l) (a-date-time f (record { clock = c; digits = n; zone = v }) g h (Permᴰ·refl _) refl)
 
-  timed-list : presentIf false d ≡ true → presentIf false y ≡ true → presentIf true t ≡ true → presentIf true z ≡ true
-      → ListOf (bytes "Basic=Time" ∷ ws) (settings (2 ∷ d ∷ y ∷ t ∷ z ∷ []))
-  timed-list p q r s =
-      let a = skips 1 d (y ∷ t ∷ z ∷ []) ws p x in
-      let b = skips 2 y (t ∷ z ∷ []) ws q (a .1) in
-      let c = needs 3 t (z ∷ []) ws r (b .1) in
-      let e = needs 4 z [] (c .1) s (c .4) in
-      let f : ws ≡ c .0 ∷ e .0 ∷ [] = c .3 ∙ ap (λ (l : List (List ℕ)). c .0 ∷ l) (e .3 ∙ ap (λ (l : List (List ℕ)). e .0 ∷ l) (stops 5 (e .1) (e .4))) in
-      as-time (c .0) (e .0) ws d y t z f (a .0) (b .0) (time-is (c .0) (pair 3 t) (c .2) refl) (zone-is (e .0) (pair 4 z) (e .2) refl)
+as-duration : (w : List ℕ) (ws : List (List ℕ)) (d y t z i : ℕ) → ws ≡ w ∷ [] → d ≡ 0 → y ≡ 0 → t ≡ 0 → z ≡ 0 → IntervalIs w i
+    → ListOf (bytes "Basic=Interval" ∷ ws) (settings (4 ∷ d ∷ y ∷ t ∷ z ∷ i ∷ []))
+as-duration w ws d y t z i e j k l m duration-alone = rw (e, j, k, l, m) (a-duration (Permᴰ·refl _) refl)
 
-  both-list : presentIf true d ≡ true → presentIf true y ≡ true → presentIf true t ≡ true → presentIf true z ≡ true
-      → ListOf (bytes "Basic=Date-Time" ∷ ws) (settings (3 ∷ d ∷ y ∷ t ∷ z ∷ []))
-  both-list p q r s =
-      let a = needs 1 d (y ∷ t ∷ z ∷ []) ws p x in
-      let b = needs 2 y (t ∷ z ∷ []) (a .1) q (a .4) in
-      let c = needs 3 t (z ∷ []) (b .1) r (b .4) in
-      let e = needs 4 z [] (c .1) s (c .4) in
-      let f : ws ≡ a .0 ∷ b .0 ∷ c .0 ∷ e .0 ∷ [] =
-      a .3 ∙ ap (λ (l : List (List ℕ)). a .0 ∷ l) (b .3 ∙ ap (λ (l : List (List ℕ)). b .0 ∷ l)
-      (c .3 ∙ ap (λ (l : List (List ℕ)). c .0 ∷ l) (e .3 ∙ ap (λ (l : List (List ℕ)). e .0 ∷ l) (stops 5 (e .1) (e .4))))) in
-      rw f (as-both (a .0) (b .0) (c .0) (e .0) d y t z (date-is (a .0) (pair 1 d) (a .2) refl) (year-is (b .0) (pair 2 y) (b .2) refl)
-      (time-is (c .0) (pair 3 t) (c .2) refl) (zone-is (e .0) (pair 4 z) (e .2) refl))
+module _ (d y t z i : ℕ) (ws : List (List ℕ)) (x : Shown 1 (d ∷ y ∷ t ∷ z ∷ i ∷ []) ws) where
+  dated-list : presentIf true d ≡ true → presentIf true y ≡ true → presentIf false t ≡ true → presentIf false z ≡ true → presentIf false i ≡ true
+      → ListOf (bytes "Basic=Date" ∷ ws) (settings (1 ∷ d ∷ y ∷ t ∷ z ∷ i ∷ []))
+  dated-list p q r s u =
+      let a = needs 1 d (y ∷ t ∷ z ∷ i ∷ []) ws p x in
+      let b = needs 2 y (t ∷ z ∷ i ∷ []) (a .1) q (a .4) in
+      let c = skips 3 t (z ∷ i ∷ []) (b .1) r (b .4) in
+      let e = skips 4 z (i ∷ []) (b .1) s (c .1) in
+      let g = skips 5 i [] (b .1) u (e .1) in
+      let f : ws ≡ a .0 ∷ b .0 ∷ [] = a .3 ∙ ap (λ (l : List (List ℕ)). a .0 ∷ l) (b .3 ∙ ap (λ (l : List (List ℕ)). b .0 ∷ l) (stops 6 (b .1) (g .1))) in
+      as-date (a .0) (b .0) ws d y t z i f (c .0) (e .0) (g .0) (date-is (a .0) (pair 1 d) (a .2) refl) (year-is (b .0) (pair 2 y) (b .2) refl)
+
+  timed-list : presentIf false d ≡ true → presentIf false y ≡ true → presentIf true t ≡ true → presentIf true z ≡ true → presentIf false i ≡ true
+      → ListOf (bytes "Basic=Time" ∷ ws) (settings (2 ∷ d ∷ y ∷ t ∷ z ∷ i ∷ []))
+  timed-list p q r s u =
+      let a = skips 1 d (y ∷ t ∷ z ∷ i ∷ []) ws p x in
+      let b = skips 2 y (t ∷ z ∷ i ∷ []) ws q (a .1) in
+      let c = needs 3 t (z ∷ i ∷ []) ws r (b .1) in
+      let e = needs 4 z (i ∷ []) (c .1) s (c .4) in
+      let g = skips 5 i [] (e .1) u (e .4) in
+      let f : ws ≡ c .0 ∷ e .0 ∷ [] = c .3 ∙ ap (λ (l : List (List ℕ)). c .0 ∷ l) (e .3 ∙ ap (λ (l : List (List ℕ)). e .0 ∷ l) (stops 6 (e .1) (g .1))) in
+      as-time (c .0) (e .0) ws d y t z i f (a .0) (b .0) (g .0) (time-is (c .0) (pair 3 t) (c .2) refl) (zone-is (e .0) (pair 4 z) (e .2) refl)
+
+  both-list : presentIf true d ≡ true → presentIf true y ≡ true → presentIf true t ≡ true → presentIf true z ≡ true → presentIf false i ≡ true
+      → ListOf (bytes "Basic=Date-Time" ∷ ws) (settings (3 ∷ d ∷ y ∷ t ∷ z ∷ i ∷ []))
+  both-list p q r s u =
+      let a = needs 1 d (y ∷ t ∷ z ∷ i ∷ []) ws p x in
+      let b = needs 2 y (t ∷ z ∷ i ∷ []) (a .1) q (a .4) in
+      let c = needs 3 t (z ∷ i ∷ []) (b .1) r (b .4) in
+      let e = needs 4 z (i ∷ []) (c .1) s (c .4) in
+      let g = skips 5 i [] (e .1) u (e .4) in
+      let f : ws ≡ a .0 ∷ b .0 ∷ c .0 ∷ e .0 ∷ [] = four-words (a .3) (b .3) (c .3) (e .3) (stops 6 (e .1) (g .1)) in
+      as-both (a .0) (b .0) (c .0) (e .0) ws d y t z i f (g .0) (date-is (a .0) (pair 1 d) (a .2) refl) (year-is (b .0) (pair 2 y) (b .2) refl)
+      (time-is (c .0) (pair 3 t) (c .2) refl) (zone-is (e .0) (pair 4 z) (e .2) refl)
+
+  interval-list : presentIf false d ≡ true → presentIf false y ≡ true → presentIf false t ≡ true → presentIf false z ≡ true → presentIf true i ≡ true
+      → ListOf (bytes "Basic=Interval" ∷ ws) (settings (4 ∷ d ∷ y ∷ t ∷ z ∷ i ∷ []))
+  interval-list p q r s u =
+      let a = skips 1 d (y ∷ t ∷ z ∷ i ∷ []) ws p x in
+      let b = skips 2 y (t ∷ z ∷ i ∷ []) ws q (a .1) in
+      let c = skips 3 t (z ∷ i ∷ []) ws r (b .1) in
+      let e = skips 4 z (i ∷ []) ws s (c .1) in
+      let g = needs 5 i [] ws u (e .1) in
+      let f : ws ≡ g .0 ∷ [] = g .3 ∙ ap (λ (l : List (List ℕ)). g .0 ∷ l) (stops 6 (g .1) (g .4)) in
+      as-duration (g .0) ws d y t z i f (a .0) (b .0) (c .0) (e .0) (interval-is (g .0) (pair 5 i) (g .2) refl)
 
 -- By the setting of Basic.
-by-basic : (u : List ℕ) (b d y t z : ℕ) (ws : List (List ℕ)) → BasicIs u b → Shown 1 (d ∷ y ∷ t ∷ z ∷ []) ws
-    → complete (settings (b ∷ d ∷ y ∷ t ∷ z ∷ [])) ≡ true
-    → ListOf (u ∷ ws) (settings (b ∷ d ∷ y ∷ t ∷ z ∷ []))
-unfolding complete datedList timedList
-by-basic u b d y t z ws one x c =
-    let p = five-hold true (presentIf true d) (presentIf true y) (presentIf false t) (presentIf false z) c in
-    dated-list d y t z ws x (p .1) (p .2) (p .3) (p .4)
-by-basic u b d y t z ws two x c =
-    let p = five-hold true (presentIf false d) (presentIf false y) (presentIf true t) (presentIf true z) c in
-    timed-list d y t z ws x (p .1) (p .2) (p .3) (p .4)
-by-basic u b d y t z ws three x c =
-    let p = five-hold true (presentIf true d) (presentIf true y) (presentIf true t) (presentIf true z) c in both-list d y t z ws x (p .1) (p .2) (p .3) (p .4)
+by-basic : (u : List ℕ) (b d y t z i : ℕ) (ws : List (List ℕ)) → BasicIs u b → Shown 1 (d ∷ y ∷ t ∷ z ∷ i ∷ []) ws
+    → complete (settings (b ∷ d ∷ y ∷ t ∷ z ∷ i ∷ [])) ≡ true
+    → ListOf (u ∷ ws) (settings (b ∷ d ∷ y ∷ t ∷ z ∷ i ∷ []))
+unfolding complete datedList timedList intervalList
+by-basic u b d y t z i ws one x c =
+    let p = six-hold true (presentIf true d) (presentIf true y) (presentIf false t) (presentIf false z) (presentIf false i) c in
+    dated-list d y t z i ws x (p .1) (p .2) (p .3) (p .4) (p .5)
+by-basic u b d y t z i ws two x c =
+    let p = six-hold true (presentIf false d) (presentIf false y) (presentIf true t) (presentIf true z) (presentIf false i) c in
+    timed-list d y t z i ws x (p .1) (p .2) (p .3) (p .4) (p .5)
+by-basic u b d y t z i ws three x c =
+    let p = six-hold true (presentIf true d) (presentIf true y) (presentIf true t) (presentIf true z) (presentIf false i) c in
+    both-list d y t z i ws x (p .1) (p .2) (p .3) (p .4) (p .5)
+by-basic u b d y t z i ws four x c =
+    let p = six-hold true (presentIf false d) (presentIf false y) (presentIf false t) (presentIf false z) (presentIf true i) c in
+    interval-list d y t z i ws x (p .1) (p .2) (p .3) (p .4) (p .5)
 
-first-there : (b d y t z : ℕ) → complete (settings (b ∷ d ∷ y ∷ t ∷ z ∷ [])) ≡ true → presentIf true b ≡ true
+first-there : (b d y t z i : ℕ) → complete (settings (b ∷ d ∷ y ∷ t ∷ z ∷ i ∷ [])) ≡ true → presentIf true b ≡ true
 unfolding complete
-first-there b d y t z c =
-    five-hold (not (eqb b 0)) (presentIf (datedList s) d) (presentIf (datedList s) y) (presentIf (timedList s) t) (presentIf (timedList s) z) c .0
+first-there b d y t z i c =
+    six-hold (not (eqb b 0)) (presentIf (datedList s) d) (presentIf (datedList s) y) (presentIf (timedList s) t) (presentIf (timedList s) z)
+    (presentIf (intervalList s) i) c .0
   where
     s : Settings
-    s = settings (b ∷ d ∷ y ∷ t ∷ z ∷ [])
+    s = settings (b ∷ d ∷ y ∷ t ∷ z ∷ i ∷ [])
 
--- Five numbers that are complete are the settings of their words.
-complete-list : (ns : List ℕ) (ws : List (List ℕ)) → length ns ≡ 5 → Shown 0 ns ws → complete (settings ns) ≡ true → ListOf ws (settings ns)
+-- Six numbers that are complete are the settings of their words.
+complete-list : (ns : List ℕ) (ws : List (List ℕ)) → length ns ≡ 6 → Shown 0 ns ws → complete (settings ns) ≡ true → ListOf ws (settings ns)
 complete-list [] ws l x c = absurd (omega arith)
 complete-list (b ∷ []) ws l x c = absurd (omega arith)
 complete-list (b ∷ d ∷ []) ws l x c = absurd (omega arith)
 complete-list (b ∷ d ∷ y ∷ []) ws l x c = absurd (omega arith)
 complete-list (b ∷ d ∷ y ∷ t ∷ []) ws l x c = absurd (omega arith)
-complete-list (b ∷ d ∷ y ∷ t ∷ z ∷ []) ws l x c =
-    let a = needs 0 b (d ∷ y ∷ t ∷ z ∷ []) ws (first-there b d y t z c) x in
-    rw (a .3) (by-basic (a .0) b d y t z (a .1) (basic-is (a .0) (pair 0 b) (a .2) refl) (a .4) c)
-complete-list (b ∷ d ∷ y ∷ t ∷ z ∷ o ∷ ns) ws l x c = absurd (omega arith)
+complete-list (b ∷ d ∷ y ∷ t ∷ z ∷ []) ws l x c = absurd (omega arith)
+complete-list (b ∷ d ∷ y ∷ t ∷ z ∷ i ∷ []) ws l x c =
+    let a = needs 0 b (d ∷ y ∷ t ∷ z ∷ i ∷ []) ws (first-there b d y t z i c) x in
+    rw (a .3) (by-basic (a .0) b d y t z i (a .1) (basic-is (a .0) (pair 0 b) (a .2) refl) (a .4) c)
+complete-list (b ∷ d ∷ y ∷ t ∷ z ∷ i ∷ o ∷ ns) ws l x c = absurd (omega arith)
 
 -- ---- the law
 
@@ -281,6 +338,7 @@ any-order : (us ws : List (List ℕ)) (s : Settings) → List·Permᴰ us ws →
 any-order us ws s p (a-date f y q e) = a-date f y (List·Permᴰ·trans p q) e
 any-order us ws s p (a-time t h q e) = a-time t h (List·Permᴰ·trans p q) e
 any-order us ws s p (a-date-time f t y h q e) = a-date-time f t y h (List·Permᴰ·trans p q) e
+any-order us ws s p (a-duration q e) = a-duration (List·Permᴰ·trans p q) e
 
 append-nothing : (ws : List (List ℕ)) → ws ++ [] ≡ ws
 append-nothing [] = refl
@@ -300,7 +358,7 @@ list-arranged l = go (complete s) refl
     go : (b : Bool) → complete s ≡ b → cond b s refusedList .readable ≡ true → ListOf (splitOn 32 l) (cond b s refusedList)
     go false c h = absurd (false≢true h)
     go true c h =
-        let m = pairs-shown (settings noneYet) (splitOn 32 l) [] refl (lacks (lacks (lacks (lacks (lacks (end 5)))))) h in
+        let m = pairs-shown (settings noneYet) (splitOn 32 l) [] refl (lacks (lacks (lacks (lacks (lacks (lacks (end 6))))))) h in
         let q : List·Permᴰ (splitOn 32 l) (m .words) = subst (λ (us : List (List ℕ)). List·Permᴰ us (m .words)) (append-nothing (splitOn 32 l)) (m .perm) in
         let e : s ≡ settings (s .numbers) = again s h in
         subst (ListOf (splitOn 32 l)) (sym e)

@@ -11,10 +11,11 @@ use Rattle.octets.specs.Octets.{bytes, eqList}
 use Rattle.octets.specs.Pieces.{splitOn}
 use Rattle.calendar.specs.Years.{yearAt}
 use Rattle.types.specs.Numbers.{dateAt, clockAt, zoneAt}
-use Rattle.types.specs.Types.{typeNumber, placed, limitedTo, noLimits, fractionDigits}
+use Rattle.types.specs.AnyTypes.{fractionDigits, limitedTo}
+use Rattle.types.specs.Types.{typeNumber, placed, noLimits}
 use Rattle.types.specs.Rows.{timeNumber, sameRow, sameRows}
 use Rattle.lists.specs.Words.{placeFrom, fractionNumber, pairOf}
-use Rattle.lists.specs.Lists.{addPair, addPairs, datedList, timedList, complete, completed, listOf}
+use Rattle.lists.specs.Lists.{addPair, addPairs, datedList, timedList, intervalList, complete, completed, listOf}
 use Rattle.type_texts.specs.TypeTexts.{listsOf, sameButYear, yearFamily, oneRow, equalLists, allOf, distinct, usable, member, yearsOf, timeAt, listType}
 use Rattle.type_texts.specs.TypeTexts.{joined, typeOf}
 use Rattle.types.specs.declared.types.Window.{Window}
@@ -144,6 +145,115 @@ texts =
     text "Basic=Date-Time Date=YMD Year=Basic Time=HMSF3 Local-or-UTC=L|Basic=Time Time=HMSF3 Local-or-UTC=L" from2000 1 ∷
     text "Basic=Date Date=YMD Year=Basic|Basic=Time Time=HMSF3 Local-or-UTC=L" bothLimits 1 ∷
     text "Basic=Date Date=Y Year=Basic|Basic=Date Date=YM Year=Basic" from2000 2 ∷
+    -- durations: the name, and the settings in either order
+    text "DURATION" noLimits 0 ∷
+    text "Basic=Interval Interval-type=D" noLimits 0 ∷
+    text "Interval-type=D Basic=Interval" noLimits 0 ∷
+    -- one of the two settings missing, twice, or with another that has no place
+    text "Basic=Interval" noLimits 1 ∷
+    text "Interval-type=D" noLimits 1 ∷
+    text "Basic=Interval Interval-type=D Interval-type=D" noLimits 1 ∷
+    text "Basic=Interval Basic=Interval Interval-type=D" noLimits 1 ∷
+    text "Basic=Interval Interval-type=D Date=Y" noLimits 1 ∷
+    text "Basic=Interval Interval-type=D Year=Basic" noLimits 1 ∷
+    text "Basic=Interval Interval-type=D Time=H" noLimits 1 ∷
+    text "Basic=Interval Interval-type=D Local-or-UTC=L" noLimits 1 ∷
+    text "Basic=Interval Interval-type=D Date=Y Year=Basic" noLimits 1 ∷
+    text "Basic=Interval Interval-type=D Time=H Local-or-UTC=L" noLimits 1 ∷
+    text "Basic=Date Date=Y Year=Basic Interval-type=D" noLimits 1 ∷
+    text "Basic=Time Time=H Local-or-UTC=L Interval-type=D" noLimits 1 ∷
+    text "Basic=Date-Time Date=Y Year=Basic Time=H Local-or-UTC=L Interval-type=D" noLimits 1 ∷
+    text "Basic=Date Interval-type=D" noLimits 1 ∷
+    text "Basic=Time Interval-type=D" noLimits 1 ∷
+    text "Basic=Date-Time Interval-type=D" noLimits 1 ∷
+    -- other intervals, and the words nearest to these
+    text "Basic=Interval Interval-type=SE" noLimits 1 ∷
+    text "Basic=Interval Interval-type=SD" noLimits 1 ∷
+    text "Basic=Interval Interval-type=DE" noLimits 1 ∷
+    text "Basic=Interval Interval-type=SE SE-point=Date Date=Y Year=Basic" noLimits 1 ∷
+    text "Basic=Rec-Interval Interval-type=D" noLimits 1 ∷
+    text "Basic=interval Interval-type=D" noLimits 1 ∷
+    text "Basic=Interval interval-type=D" noLimits 1 ∷
+    text "Basic=Interval Interval-type=d" noLimits 1 ∷
+    text "Basic=Interval Interval-type=" noLimits 1 ∷
+    text "Basic=Interval  Interval-type=D" noLimits 1 ∷
+    text "Basic=Interval,Interval-type=D" noLimits 1 ∷
+    text " Basic=Interval Interval-type=D" noLimits 1 ∷
+    text "Basic=Interval Interval-type=D " noLimits 1 ∷
+    text "Duration" noLimits 1 ∷
+    text "duration" noLimits 1 ∷
+    text "DURATION " noLimits 1 ∷
+    text " DURATION" noLimits 1 ∷
+    text "DURATIONS" noLimits 1 ∷
+    text "DURATION Interval-type=D" noLimits 1 ∷
+    -- two lists of durations, and the name beside a bar
+    text "Basic=Interval Interval-type=D|Basic=Interval Interval-type=D" noLimits 1 ∷
+    text "Basic=Interval Interval-type=D|Interval-type=D Basic=Interval" noLimits 1 ∷
+    text "Interval-type=D Basic=Interval|Basic=Interval Interval-type=D" noLimits 1 ∷
+    text "Interval-type=D Basic=Interval|Interval-type=D Basic=Interval" noLimits 1 ∷
+    text "DURATION|DURATION" noLimits 1 ∷
+    text "DURATION|Basic=Interval Interval-type=D" noLimits 1 ∷
+    text "Basic=Interval Interval-type=D|DURATION" noLimits 1 ∷
+    text "DURATION|Basic=Date Date=Y Year=Basic" noLimits 1 ∷
+    text "DATE|Basic=Interval Interval-type=D" noLimits 1 ∷
+    text "DATE|DURATION" noLimits 1 ∷
+    text "DURATION|" noLimits 1 ∷
+    text "|DURATION" noLimits 1 ∷
+    text "Basic=Interval Interval-type=D|" noLimits 1 ∷
+    text "|Basic=Interval Interval-type=D" noLimits 1 ∷
+    text "Basic=Interval Interval-type=D|Basic=Interval Interval-type=D|Basic=Interval Interval-type=D" noLimits 1 ∷
+    -- a list of durations beside one of points, which is 2, and 1 where something else is wrong
+    text "Basic=Interval Interval-type=D|Basic=Date Date=Y Year=Basic" noLimits 2 ∷
+    text "Basic=Date Date=Y Year=Basic|Basic=Interval Interval-type=D" noLimits 2 ∷
+    text "Basic=Interval Interval-type=D|Basic=Time Time=H Local-or-UTC=L" noLimits 2 ∷
+    text "Basic=Time Time=H Local-or-UTC=L|Basic=Interval Interval-type=D" noLimits 2 ∷
+    text "Basic=Interval Interval-type=D|Basic=Date-Time Date=Y Year=Basic Time=H Local-or-UTC=L" noLimits 2 ∷
+    text "Basic=Date-Time Date=Y Year=Basic Time=H Local-or-UTC=L|Basic=Interval Interval-type=D" noLimits 2 ∷
+    text "Interval-type=D Basic=Interval|Basic=Date Date=Y Year=Basic" noLimits 2 ∷
+    text "Basic=Interval Interval-type=D|Basic=Date Date=Y" noLimits 1 ∷
+    text "Basic=Date Date=Y|Basic=Interval Interval-type=D" noLimits 1 ∷
+    text "Basic=Interval Interval-type=D|Basic=Time Time=H" noLimits 1 ∷
+    text "Basic=Time Time=H|Basic=Interval Interval-type=D" noLimits 1 ∷
+    text "Basic=Interval Interval-type=D|Basic=Interval" noLimits 1 ∷
+    text "Basic=Interval|Basic=Interval Interval-type=D" noLimits 1 ∷
+    text "Basic=Interval Interval-type=D|Basic=Date Date=Y Year=Basic|Basic=Time Time=H Local-or-UTC=L" noLimits 1 ∷
+    text "Basic=Interval Interval-type=D|Basic=Date Date=Y Year=Basic" from2000 1 ∷
+    text "Basic=Date Date=Y Year=Basic|Basic=Interval Interval-type=D" from2000 1 ∷
+    text "Basic=Interval Interval-type=D|Basic=Time Time=H Local-or-UTC=L" from2000 1 ∷
+    text "Basic=Time Time=H Local-or-UTC=L|Basic=Interval Interval-type=D" from2000 1 ∷
+    text "Basic=Interval Interval-type=D|Basic=Date-Time Date=Y Year=Basic Time=H Local-or-UTC=L" from2000 1 ∷
+    text "Basic=Date-Time Date=Y Year=Basic Time=H Local-or-UTC=L|Basic=Interval Interval-type=D" from2000 1 ∷
+    text "Basic=Interval Interval-type=D|Basic=Date Date=Y Year=Basic" noHour24 1 ∷
+    text "Basic=Date Date=Y Year=Basic|Basic=Interval Interval-type=D" noHour24 1 ∷
+    text "Basic=Interval Interval-type=D|Basic=Time Time=H Local-or-UTC=L" noHour24 1 ∷
+    text "Basic=Time Time=H Local-or-UTC=L|Basic=Interval Interval-type=D" noHour24 1 ∷
+    text "Basic=Interval Interval-type=D|Basic=Date-Time Date=Y Year=Basic Time=H Local-or-UTC=L" noHour24 1 ∷
+    text "Basic=Date-Time Date=Y Year=Basic Time=H Local-or-UTC=L|Basic=Interval Interval-type=D" noHour24 1 ∷
+    text "Basic=Interval Interval-type=D|Basic=Date Date=Y Year=Basic" bothLimits 1 ∷
+    text "Basic=Date Date=Y Year=Basic|Basic=Interval Interval-type=D" bothLimits 1 ∷
+    text "Basic=Interval Interval-type=D|Basic=Time Time=H Local-or-UTC=L" bothLimits 1 ∷
+    text "Basic=Time Time=H Local-or-UTC=L|Basic=Interval Interval-type=D" bothLimits 1 ∷
+    text "Basic=Interval Interval-type=D|Basic=Date-Time Date=Y Year=Basic Time=H Local-or-UTC=L" bothLimits 1 ∷
+    text "Basic=Date-Time Date=Y Year=Basic Time=H Local-or-UTC=L|Basic=Interval Interval-type=D" bothLimits 1 ∷
+    text "Basic=Interval Interval-type=D|Basic=Date Date=Y Year=Basic" noYears 1 ∷
+    text "Basic=Date Date=Y Year=Basic|Basic=Interval Interval-type=D" noYears 1 ∷
+    text "Basic=Interval Interval-type=D|Basic=Time Time=H Local-or-UTC=L" noYears 1 ∷
+    text "Basic=Time Time=H Local-or-UTC=L|Basic=Interval Interval-type=D" noYears 1 ∷
+    text "Basic=Interval Interval-type=D|Basic=Date-Time Date=Y Year=Basic Time=H Local-or-UTC=L" noYears 1 ∷
+    text "Basic=Date-Time Date=Y Year=Basic Time=H Local-or-UTC=L|Basic=Interval Interval-type=D" noYears 1 ∷
+    -- restrictions, which have no place at a duration
+    text "DURATION" from2000 1 ∷
+    text "Basic=Interval Interval-type=D" from2000 1 ∷
+    text "Interval-type=D Basic=Interval" from2000 1 ∷
+    text "DURATION" noYears 1 ∷
+    text "Basic=Interval Interval-type=D" noYears 1 ∷
+    text "Interval-type=D Basic=Interval" noYears 1 ∷
+    text "DURATION" noHour24 1 ∷
+    text "Basic=Interval Interval-type=D" noHour24 1 ∷
+    text "Interval-type=D Basic=Interval" noHour24 1 ∷
+    text "DURATION" bothLimits 1 ∷
+    text "Basic=Interval Interval-type=D" bothLimits 1 ∷
+    text "Interval-type=D Basic=Interval" bothLimits 1 ∷
     []
 
 textsRight : List TextRow → Bool
@@ -152,7 +262,7 @@ textsRight (text s limits number ∷ l) = eqb (typeNumber (typeOf limits (bytes 
 
 texts-checked : textsRight texts ≡ true
 unfolding texts textsRight typeOf joined listType timeAt yearsOf member usable distinct allOf equalLists oneRow yearFamily sameButYear listsOf listOf
-    completed complete timedList datedList addPairs addPair splitOn pairOf fractionNumber placeFrom limitedTo placed zoneAt clockAt dateAt eqList
+    completed complete timedList datedList intervalList addPairs addPair splitOn pairOf fractionNumber placeFrom limitedTo placed zoneAt clockAt dateAt eqList
 texts-checked = refl
 
 -- two types, with limits or without, and whether they select the same rows
@@ -193,6 +303,40 @@ pairs =
     limited "DATE" from2000 "Basic=Date Date=YMD Year=L5" from2000 false ∷
     limited "TIME-OF-DAY" noHour24 "Basic=Time Time=HM Local-or-UTC=L" noHour24 false ∷
     limited "DATE" from2000 "DATE-TIME" from2000 false ∷
+    -- "with row 37 as one row" (#101)
+    pair "DURATION" "DURATION" true ∷
+    pair "DURATION" "Basic=Interval Interval-type=D" true ∷
+    pair "Basic=Interval Interval-type=D" "DURATION" true ∷
+    pair "Basic=Interval Interval-type=D" "Basic=Interval Interval-type=D" true ∷
+    pair "Basic=Interval Interval-type=D" "Interval-type=D Basic=Interval" true ∷
+    pair "DURATION" "Interval-type=D Basic=Interval" true ∷
+    pair "DURATION" "DATE" false ∷
+    pair "DATE" "DURATION" false ∷
+    pair "DURATION" "TIME-OF-DAY" false ∷
+    pair "TIME-OF-DAY" "DURATION" false ∷
+    pair "DURATION" "DATE-TIME" false ∷
+    pair "DATE-TIME" "DURATION" false ∷
+    pair "DURATION" "Basic=Date Date=Y Year=Basic" false ∷
+    pair "Basic=Date Date=Y Year=Basic" "DURATION" false ∷
+    pair "DURATION" "Basic=Time Time=H Local-or-UTC=L" false ∷
+    pair "Basic=Time Time=H Local-or-UTC=L" "DURATION" false ∷
+    pair "DURATION" "Basic=Date-Time Date=Y Year=Basic Time=H Local-or-UTC=L" false ∷
+    pair "Basic=Date-Time Date=Y Year=Basic Time=H Local-or-UTC=L" "DURATION" false ∷
+    pair "Basic=Interval Interval-type=D" "DATE" false ∷
+    pair "DATE" "Basic=Interval Interval-type=D" false ∷
+    pair "Basic=Interval Interval-type=D" "TIME-OF-DAY" false ∷
+    pair "TIME-OF-DAY" "Basic=Interval Interval-type=D" false ∷
+    pair "Basic=Interval Interval-type=D" "DATE-TIME" false ∷
+    pair "DATE-TIME" "Basic=Interval Interval-type=D" false ∷
+    pair "Basic=Interval Interval-type=D" "Basic=Date Date=Y Year=Basic" false ∷
+    pair "Basic=Date Date=Y Year=Basic" "Basic=Interval Interval-type=D" false ∷
+    pair "Basic=Interval Interval-type=D" "Basic=Time Time=H Local-or-UTC=L" false ∷
+    pair "Basic=Time Time=H Local-or-UTC=L" "Basic=Interval Interval-type=D" false ∷
+    pair "Basic=Interval Interval-type=D" "Basic=Date-Time Date=Y Year=Basic Time=H Local-or-UTC=L" false ∷
+    pair "Basic=Date-Time Date=Y Year=Basic Time=H Local-or-UTC=L" "Basic=Interval Interval-type=D" false ∷
+    pair "DURATION" "Basic=Time Time=HMSF3 Local-or-UTC=L" false ∷
+    limited "DURATION" noLimits "DATE" from2000 false ∷
+    limited "TIME-OF-DAY" noHour24 "Basic=Interval Interval-type=D" noLimits false ∷
     []
 
 alike : TypeRead → TypeRead → Bool → Bool
@@ -209,8 +353,8 @@ pairsRight (limited s m t n expected ∷ l) = alike (typeOf m (bytes s)) (typeOf
 
 pairs-checked : pairsRight pairs ≡ true
 unfolding pairs pairsRight alike timeNumber sameRow sameRows typeOf joined listType timeAt yearsOf member usable distinct allOf equalLists oneRow yearFamily
-    sameButYear listsOf listOf completed complete timedList datedList addPairs addPair splitOn pairOf fractionNumber placeFrom limitedTo placed zoneAt clockAt
-    dateAt eqList
+    sameButYear listsOf listOf completed complete timedList datedList intervalList addPairs addPair splitOn pairOf fractionNumber placeFrom limitedTo placed
+    zoneAt clockAt dateAt eqList
 pairs-checked = refl
 
 -- a type, and the number of its fraction digits
@@ -222,6 +366,9 @@ digits =
     count "DATE" 0 ∷
     count "TIME-OF-DAY" 0 ∷
     count "DATE-TIME" 0 ∷
+    count "DURATION" 0 ∷
+    count "Basic=Interval Interval-type=D" 0 ∷
+    count "Interval-type=D Basic=Interval" 0 ∷
     count "Basic=Time Time=HF1 Local-or-UTC=L" 1 ∷
     count "Basic=Time Time=HMSF3 Local-or-UTC=Z" 3 ∷
     count "Basic=Time Time=HMF9 Local-or-UTC=LD" 9 ∷
@@ -239,5 +386,5 @@ digitsRight (count s n ∷ l) = has (typeOf noLimits (bytes s)) n && digitsRight
 
 digits-checked : digitsRight digits ≡ true
 unfolding digits digitsRight has typeOf joined listType timeAt yearsOf member usable distinct allOf equalLists oneRow yearFamily sameButYear listsOf listOf
-    completed complete timedList datedList addPairs addPair splitOn pairOf fractionNumber placeFrom limitedTo placed zoneAt clockAt dateAt eqList
+    completed complete timedList datedList intervalList addPairs addPair splitOn pairOf fractionNumber placeFrom limitedTo placed zoneAt clockAt dateAt eqList
 digits-checked = refl

@@ -12,43 +12,49 @@ use Rattle.octets.specs.Octets.{bytes, eqList}
 use Rattle.octets.specs.Pieces.{splitOn, withFirst}
 use Rattle.octets.proofs.Laws.Octets.{equal}
 use Rattle.answers.proofs.Laws.Outcomes.{by-number}
-use Rattle.lists.specs.Lists.{basicIn, dateIn, yearIn, timeIn, zoneIn, listOf}
+use Rattle.lists.specs.Lists.{basicIn, dateIn, yearIn, timeIn, zoneIn, intervalIn, listOf}
 use Rattle.lists.specs.declared.lists.Settings.{Settings}
 use Rattle.texts.specs.declared.forms.DateForm.{DateForm}
 use Rattle.texts.specs.declared.forms.TimeForm.{TimeForm}
 use Rattle.types.specs.Numbers.{dateNumber, dateAt, zoneNumber}
 use Rattle.types.proofs.Laws.Limits.{limits-carried}
 use Rattle.types.proofs.Laws.Numbers.{date-back}
-use Rattle.types.specs.Types.{listed, unlimitedDate, unlimitedTime, DATE, TIME-OF-DAY, DATE-TIME, limitedTo, limitsOf, someYear, wellParts, partsOf}
+use Rattle.types.specs.AnyTypes.{DURATION, limitedTo, limitsOf, wellFormed}
+use Rattle.types.specs.Types.{listed, unlimitedDate, unlimitedTime, DATE, TIME-OF-DAY, DATE-TIME, someYear, wellParts}
+use Rattle.types.specs.declared.types.AnyType.{AnyType}
 use Rattle.types.specs.declared.types.Limits.{Limits}
 use Rattle.types.specs.declared.types.Parts.{Parts}
 use Rattle.types.specs.declared.types.TypeRead.{TypeRead}
 use Rattle.types.specs.declared.types.Years.{Years}
-use Rattle.types.specs.declared.types.«Type».{«Type»}
 use Rattle.type_texts.specs.TypeTexts.{allOf, distinct, equalLists, joined, listsOf, mostLists, oneRow, sameButYear, timeAt, typeOf, usable, yearFamily}
 use Rattle.type_texts.specs.Written.{YearSetting, basic, proleptic, negative, five, datePairs, dateTimePairs, namedYears, listsFor, joinWith, typeText}
-use Rattle.type_texts.specs.Written.{Arranged, end, more}
-use Rattle.type_texts.proofs.Laws.Arranged.{ListOf, a-date, a-time, a-date-time, list-arranged}
+use Rattle.type_texts.specs.Written.{Arranged, end, more, listedType, listsForType}
+use Rattle.type_texts.proofs.Laws.Arranged.{ListOf, a-date, a-time, a-date-time, a-duration, list-arranged}
 use Rattle.type_texts.proofs.Laws.Complete.{settings-read}
 use Rattle.type_texts.proofs.Laws.Joining.{lacks}
 use Rattle.type_texts.proofs.Laws.ListOrder.{either-order}
+use Rattle.type_texts.proofs.Laws.Tests.{five-hold}
 use Rattle.type_texts.proofs.Laws.Words.{join-split, kept, type-text}
-use Rattle.type_texts.proofs.Laws.Written.{dateList, dateTimeList, time-back, timeCode, timeList, yearNumber}
+use Rattle.type_texts.proofs.Laws.Written.{dateList, dateTimeList, durationList, time-back, timeCode, timeList, yearNumber}
 
 -- A text of settings, and the type under limits that they give: their lists, the pairs of each in some order; of two lists, either may be the first.
-pub data Reads (limits : Limits) (t : «Type») (l : List ℕ) : Type 0 where
-  in-order : (p : Parts) → limitedTo limits (listed p) ≡ TypeRead.«Type» t → (wss : List (List (List ℕ))) → Arranged wss (listsFor p) → l ≡ typeText wss
-      → Reads limits t l
-  swapped : (p : Parts) → limitedTo limits (listed p) ≡ TypeRead.«Type» t → (a b : List (List ℕ)) → Arranged (a ∷ b ∷ []) (listsFor p)
+pub data Reads (limits : Limits) (t : AnyType) (l : List ℕ) : Type 0 where
+  in-order : (u : AnyType) → limitedTo limits (listedType u) ≡ TypeRead.«Type» t → (wss : List (List (List ℕ))) → Arranged wss (listsForType u)
+      → l ≡ typeText wss → Reads limits t l
+  swapped : (u : AnyType) → limitedTo limits (listedType u) ≡ TypeRead.«Type» t → (a b : List (List ℕ)) → Arranged (a ∷ b ∷ []) (listsForType u)
       → l ≡ typeText (b ∷ a ∷ []) → Reads limits t l
 
-module _ (limits : Limits) (l : List ℕ) (t : «Type») (h : typeOf limits l ≡ TypeRead.«Type» t) (p : Parts) (w : wellParts p ≡ true) where
-  reads-as : (wss : List (List (List ℕ))) → Arranged wss (listsFor p) → l ≡ typeText wss → Reads limits t l
-  reads-as wss a e = in-order p (sym (settings-read limits p w a) ∙ ap (typeOf limits) (sym e) ∙ h) wss a e
+-- The type of settings that are listed.
+abbrev listedParts : Parts → AnyType
+listedParts p = AnyType.Point (listed p)
 
-  reads-swapped : (a b : List (List ℕ)) → Arranged (a ∷ b ∷ []) (listsFor p) → l ≡ typeText (b ∷ a ∷ [])
+module _ (limits : Limits) (l : List ℕ) (t : AnyType) (h : typeOf limits l ≡ TypeRead.«Type» t) (u : AnyType) (w : wellFormed u ≡ true) where
+  reads-as : (wss : List (List (List ℕ))) → Arranged wss (listsForType u) → l ≡ typeText wss → Reads limits t l
+  reads-as wss a e = in-order u (sym (settings-read limits u w a) ∙ ap (typeOf limits) (sym e) ∙ h) wss a e
+
+  reads-swapped : (a b : List (List ℕ)) → Arranged (a ∷ b ∷ []) (listsForType u) → l ≡ typeText (b ∷ a ∷ [])
       → typeOf limits (typeText (a ∷ b ∷ [])) ≡ typeOf limits (typeText (b ∷ a ∷ [])) → Reads limits t l
-  reads-swapped a b r e o = swapped p (sym (settings-read limits p w r) ∙ o ∙ ap (typeOf limits) (sym e) ∙ h) a b r e
+  reads-swapped a b r e o = swapped u (sym (settings-read limits u w r) ∙ o ∙ ap (typeOf limits) (sym e) ∙ h) a b r e
 
 -- ---- one list
 
@@ -65,14 +71,16 @@ one-year proleptic = (refl, refl)
 one-year negative = (refl, refl)
 one-year five = (refl, refl)
 
-module _ (limits : Limits) (l : List ℕ) (t : «Type») (h : typeOf limits l ≡ TypeRead.«Type» t) where
+module _ (limits : Limits) (l : List ℕ) (t : AnyType) (h : typeOf limits l ≡ TypeRead.«Type» t) where
   one-list : (ws : List (List ℕ)) (s : Settings) → ListOf ws s → l ≡ typeText (ws ∷ []) → Reads limits t l
   one-list ws s (a-date f y p e) x =
-      reads-as limits l t h (Parts.Date (unlimitedDate f (oneYear y))) (one-year y .0) (ws ∷ []) (rw (one-year y .1) (more p end)) x
-  one-list ws s (a-time u k p e) x = reads-as limits l t h (Parts.Time (unlimitedTime u)) (le-leb (u .digits) 9 k) (ws ∷ []) (more p end) x
+      reads-as limits l t h (listedParts (Parts.Date (unlimitedDate f (oneYear y)))) (one-year y .0) (ws ∷ []) (rw (one-year y .1) (more p end)) x
+  one-list ws s (a-time u k p e) x =
+      reads-as limits l t h (listedParts (Parts.Time (unlimitedTime u))) (le-leb (u .digits) 9 k) (ws ∷ []) (more p end) x
   one-list ws s (a-date-time f u y k p e) x =
-      reads-as limits l t h (Parts.DateTime (unlimitedDate f (oneYear y)) (unlimitedTime u)) (rw (one-year y .0) (le-leb (u .digits) 9 k)) (ws ∷ [])
-      (rw (one-year y .1) (more p end)) x
+      reads-as limits l t h (listedParts (Parts.DateTime (unlimitedDate f (oneYear y)) (unlimitedTime u))) (rw (one-year y .0) (le-leb (u .digits) 9 k))
+      (ws ∷ []) (rw (one-year y .1) (more p end)) x
+  one-list ws s (a-duration p e) x = reads-as limits l t h AnyType.ListedDuration refl (ws ∷ []) (more p end) x
 
 -- ---- two lists
 
@@ -116,11 +124,11 @@ record Alike (s u : Settings) : Type 0 where
   family-is : yearFamily (yearIn s) ≡ yearFamily (yearIn u)
   year-not : yearIn s ≡ yearIn u → ⊥
 
-module _ (limits : Limits) (l : List ℕ) (t : «Type») (h : typeOf limits l ≡ TypeRead.«Type» t) (a b : List (List ℕ)) (x : l ≡ typeText (a ∷ b ∷ []))
+module _ (limits : Limits) (l : List ℕ) (t : AnyType) (h : typeOf limits l ≡ TypeRead.«Type» t) (a b : List (List ℕ)) (x : l ≡ typeText (a ∷ b ∷ []))
     (o : typeOf limits (typeText (b ∷ a ∷ [])) ≡ typeOf limits (typeText (a ∷ b ∷ []))) where
   two-ways : (p : Parts) → wellParts p ≡ true → (Arranged (a ∷ b ∷ []) (listsFor p)) ⊎ (Arranged (b ∷ a ∷ []) (listsFor p)) → Reads limits t l
-  two-ways p w (inl r) = reads-as limits l t h p w (a ∷ b ∷ []) r x
-  two-ways p w (inr r) = reads-swapped limits l t h p w b a r x o
+  two-ways p w (inl r) = reads-as limits l t h (listedParts p) w (a ∷ b ∷ []) r x
+  two-ways p w (inr r) = reads-swapped limits l t h (listedParts p) w b a r x o
 
   dates : (f : DateForm) (y z : YearSetting) → Two y z → List·Permᴰ a (datePairs f y) → List·Permᴰ b (datePairs f z) → Reads limits t l
   dates f y z w p q = go (w .named)
@@ -164,22 +172,24 @@ module _ (limits : Limits) (l : List ℕ) (t : «Type») (h : typeOf limits l �
       let o : v ≡ r = sym (time-back v) ∙ d ∙ time-back r in
       let p₁ : List·Permᴰ a (dateTimePairs g v y) = subst (λ (d : DateForm). List·Permᴰ a (dateTimePairs d v y)) n p in
       date-times g r y z c (two-years y z (m .family-is) (m .year-not)) (subst (λ (w : TimeForm). List·Permᴰ a (dateTimePairs g w y)) o p₁) q
+  two-lists s u (a-date f y p e) (a-duration q i) k = let m : Alike (dateList f y) durationList = rw (e, i) at k in let z = m .basic-is in absurd (omega arith)
+  two-lists s u (a-time v j p e) (a-duration q i) k = let m : Alike (timeList v) durationList = rw (e, i) at k in let z = m .basic-is in absurd (omega arith)
+  two-lists s u (a-date-time f v y j p e) (a-duration q i) k = let m : Alike (dateTimeList f v y) durationList = rw (e, i) at k in let z = m .basic-is in
+      absurd (omega arith)
+  two-lists s u (a-duration p e) (a-date g z q i) k = let m : Alike durationList (dateList g z) = rw (e, i) at k in let z = m .basic-is in absurd (omega arith)
+  two-lists s u (a-duration p e) (a-time r c q i) k = let m : Alike durationList (timeList r) = rw (e, i) at k in let z = m .basic-is in absurd (omega arith)
+  two-lists s u (a-duration p e) (a-date-time g r z c q i) k = let m : Alike durationList (dateTimeList g r z) = rw (e, i) at k in let z = m .basic-is in
+      absurd (omega arith)
+  two-lists s u (a-duration p e) (a-duration q i) k = let m : Alike durationList durationList = rw (e, i) at k in absurd (m .year-not refl)
 
 -- ---- the tests of two lists
-
--- Of four tests that hold together each holds.
-pub four-hold : (a b c d : Bool) → a && b && c && d ≡ true → (a ≡ true) × (b ≡ true) × (c ≡ true) × (d ≡ true)
-four-hold true true true true e = (refl, refl, refl, refl)
-four-hold true true true false e = absurd (false≢true e)
-four-hold true true false d e = absurd (false≢true e)
-four-hold true false c d e = absurd (false≢true e)
-four-hold false b c d e = absurd (false≢true e)
 
 alike : (s u : Settings) → oneRow s u ≡ true → equalLists s u ≡ false → Alike s u
 unfolding oneRow equalLists sameButYear
 alike s u r n =
     let p : (sameButYear s u ≡ true) × (eqb (yearFamily (yearIn s)) (yearFamily (yearIn u)) ≡ true) = and-eq-true-iff _ _ .0 r in
-    let q = four-hold (eqb (basicIn s) (basicIn u)) (eqb (dateIn s) (dateIn u)) (eqb (timeIn s) (timeIn u)) (eqb (zoneIn s) (zoneIn u)) (p .0) in
+    let q = five-hold (eqb (basicIn s) (basicIn u)) (eqb (dateIn s) (dateIn u)) (eqb (timeIn s) (timeIn u)) (eqb (zoneIn s) (zoneIn u))
+    (eqb (intervalIn s) (intervalIn u)) (p .0) in
     record {
       basic-is = eqb-true _ _ (q .0);
       date-is = eqb-true _ _ (q .1);
@@ -208,7 +218,7 @@ split-lacks c (x ∷ l) = go (eqb x c) (splitOn c l) refl (split-lacks c l)
     go false [] e i = rw e
     go false (w ∷ ws) e i = rw e i
 
-module _ (limits : Limits) (l : List ℕ) (t : «Type») (h : typeOf limits l ≡ TypeRead.«Type» t) where
+module _ (limits : Limits) (l : List ℕ) (t : AnyType) (h : typeOf limits l ≡ TypeRead.«Type» t) where
   usable-read : (s : Settings) → usable limits s ≡ true → s .readable ≡ true
   unfolding usable
   usable-read s e = and-eq-true-iff _ _ .0 e .0
@@ -251,47 +261,43 @@ module _ (limits : Limits) (l : List ℕ) (t : «Type») (h : typeOf limits l �
 -- ---- the law
 
 -- How a text that is read as a type stands for it.
-pub data Stands (limits : Limits) (t : «Type») (l : List ℕ) : Type 0 where
-  DATE-is : l ≡ bytes "DATE" → limitedTo limits DATE ≡ TypeRead.«Type» t → Stands limits t l
-  TIME-OF-DAY-is : l ≡ bytes "TIME-OF-DAY" → limitedTo limits TIME-OF-DAY ≡ TypeRead.«Type» t → Stands limits t l
-  DATE-TIME-is : l ≡ bytes "DATE-TIME" → limitedTo limits DATE-TIME ≡ TypeRead.«Type» t → Stands limits t l
+pub data Stands (limits : Limits) (t : AnyType) (l : List ℕ) : Type 0 where
+  DATE-is : l ≡ bytes "DATE" → limitedTo limits (AnyType.Point DATE) ≡ TypeRead.«Type» t → Stands limits t l
+  TIME-OF-DAY-is : l ≡ bytes "TIME-OF-DAY" → limitedTo limits (AnyType.Point TIME-OF-DAY) ≡ TypeRead.«Type» t → Stands limits t l
+  DATE-TIME-is : l ≡ bytes "DATE-TIME" → limitedTo limits (AnyType.Point DATE-TIME) ≡ TypeRead.«Type» t → Stands limits t l
+  DURATION-is : l ≡ bytes "DURATION" → limitedTo limits DURATION ≡ TypeRead.«Type» t → Stands limits t l
   settings-are : Reads limits t l → Stands limits t l
 
--- What is read as a type is a name, and the type is what the name stands for, or it is the type's own settings, in some order; under these limits.
-pub read-stands : (limits : Limits) (l : List ℕ) (t : «Type») → typeOf limits l ≡ TypeRead.«Type» t → Stands limits t l
-unfolding typeOf
-read-stands limits l t h = date-name (eqList l (bytes "DATE")) refl h
+-- By whether a text is a name.
+by-name : (limits : Limits) (l : List ℕ) (t n : AnyType) (name : List ℕ) (x : TypeRead)
+    → (l ≡ name → limitedTo limits n ≡ TypeRead.«Type» t → Stands limits t l)
+    → (x ≡ TypeRead.«Type» t → Stands limits t l)
+    → cond (eqList l name) (limitedTo limits n) x ≡ TypeRead.«Type» t
+    → Stands limits t l
+by-name limits l t n name x f g = go (eqList l name) refl
   where
-    both-name : (b : Bool) → eqList l (bytes "DATE-TIME") ≡ b
-        → cond b (limitedTo limits DATE-TIME) (joined limits (listsOf l)) ≡ TypeRead.«Type» t
-        → Stands limits t l
-    both-name true e j = DATE-TIME-is (equal l _ e) j
-    both-name false e j = settings-are (lists-read limits l t h j)
+    go : (b : Bool) → eqList l name ≡ b → cond b (limitedTo limits n) x ≡ TypeRead.«Type» t → Stands limits t l
+    go true e j = f (equal l name e) j
+    go false e j = g j
 
-    time-name : (b : Bool) → eqList l (bytes "TIME-OF-DAY") ≡ b
-        → cond b (limitedTo limits TIME-OF-DAY)
-        (cond (eqList l (bytes "DATE-TIME")) (limitedTo limits DATE-TIME) (joined limits (listsOf l)))
-        ≡ TypeRead.«Type» t
-        → Stands limits t l
-    time-name true e j = TIME-OF-DAY-is (equal l _ e) j
-    time-name false e j = both-name (eqList l (bytes "DATE-TIME")) refl j
-
-    date-name : (b : Bool) → eqList l (bytes "DATE") ≡ b
-        → cond b (limitedTo limits DATE)
-        (cond (eqList l (bytes "TIME-OF-DAY")) (limitedTo limits TIME-OF-DAY)
-        (cond (eqList l (bytes "DATE-TIME")) (limitedTo limits DATE-TIME) (joined limits (listsOf l))))
-        ≡ TypeRead.«Type» t
-        → Stands limits t l
-    date-name true e j = DATE-is (equal l _ e) j
-    date-name false e j = time-name (eqList l (bytes "TIME-OF-DAY")) refl j
+-- What is read as a type is a name, and the type is what the name stands for, or it is the type's own settings, in some order; under these limits.
+pub read-stands : (limits : Limits) (l : List ℕ) (t : AnyType) → typeOf limits l ≡ TypeRead.«Type» t → Stands limits t l
+unfolding typeOf
+read-stands limits l t h =
+    by-name limits l t (AnyType.Point DATE) (bytes "DATE") _ DATE-is
+    (by-name limits l t (AnyType.Point TIME-OF-DAY) (bytes "TIME-OF-DAY") _ TIME-OF-DAY-is
+    (by-name limits l t (AnyType.Point DATE-TIME) (bytes "DATE-TIME") _ DATE-TIME-is
+    (by-name limits l t DURATION (bytes "DURATION") _ DURATION-is (λ j. settings-are (lists-read limits l t h j)))))
+    h
 
 -- The type that is read carries the limits given beside its text, and no other restriction.
-pub read-limits : (limits : Limits) (l : List ℕ) (t : «Type») → typeOf limits l ≡ TypeRead.«Type» t → limitsOf (partsOf t) ≡ limits
+pub read-limits : (limits : Limits) (l : List ℕ) (t : AnyType) → typeOf limits l ≡ TypeRead.«Type» t → limitsOf t ≡ limits
 read-limits limits l t h = go (read-stands limits l t h)
   where
-    go : Stands limits t l → limitsOf (partsOf t) ≡ limits
-    go (DATE-is e k) = limits-carried limits DATE t k
-    go (TIME-OF-DAY-is e k) = limits-carried limits TIME-OF-DAY t k
-    go (DATE-TIME-is e k) = limits-carried limits DATE-TIME t k
-    go (settings-are (in-order p k wss a e)) = limits-carried limits (listed p) t k
-    go (settings-are (swapped p k a b r e)) = limits-carried limits (listed p) t k
+    go : Stands limits t l → limitsOf t ≡ limits
+    go (DATE-is e k) = limits-carried limits (AnyType.Point DATE) t k
+    go (TIME-OF-DAY-is e k) = limits-carried limits (AnyType.Point TIME-OF-DAY) t k
+    go (DATE-TIME-is e k) = limits-carried limits (AnyType.Point DATE-TIME) t k
+    go (DURATION-is e k) = limits-carried limits DURATION t k
+    go (settings-are (in-order u k wss a e)) = limits-carried limits (listedType u) t k
+    go (settings-are (swapped u k a b r e)) = limits-carried limits (listedType u) t k

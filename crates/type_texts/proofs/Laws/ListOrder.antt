@@ -1,13 +1,13 @@
 -- Two lists may stand in either order.
 use mathlib.Core.Path.{_≡_, refl, ap, sym, _∙_}
-use mathlib.Core.Bool.{Bool, true, false, _&&_, not, cond, and-false, and-eq-true-iff, or-comm, or-false, false≢true}
+use mathlib.Core.Bool.{Bool, true, false, _&&_, not, cond, and-false, and-eq-true-iff, or-comm, or-false}
 use mathlib.Core.List.{List, [], _∷_, _++_}
 use Prim.Native.Nat.{ℕ}
 use lib.Dec.{eqb}
 use borrow.Author.Tests.{eq-eqb, ne-eqb, eqb-true, eqb-false}
 use Rattle.octets.specs.Octets.{bytes}
-use Rattle.types.specs.Types.{limitedTo}
-use Rattle.lists.specs.Lists.{basicIn, dateIn, yearIn, timeIn, zoneIn, listOf}
+use Rattle.types.specs.AnyTypes.{limitedTo}
+use Rattle.lists.specs.Lists.{basicIn, dateIn, yearIn, timeIn, zoneIn, intervalIn, listOf}
 use Rattle.type_texts.specs.TypeTexts.{listsOf, sameButYear, yearFamily, oneRow, equalLists, allOf, distinct, usable, member, yearsOf, listType, joined}
 use Rattle.type_texts.specs.TypeTexts.{typeOf}
 use Rattle.type_texts.specs.Written.{joinWith}
@@ -15,6 +15,7 @@ use Rattle.types.specs.declared.types.Limits.{Limits}
 use Rattle.types.specs.declared.types.TypeRead.{TypeRead}
 use Rattle.lists.specs.declared.lists.Settings.{Settings}
 use Rattle.type_texts.proofs.Laws.Joining.{lacks, split-join}
+use Rattle.type_texts.proofs.Laws.Tests.{five-hold}
 use Rattle.type_texts.proofs.Laws.Written.{not-it}
 
 eqb-sym : (m n : ℕ) → eqb m n ≡ eqb n m
@@ -26,7 +27,14 @@ eqb-sym m n = go (eqb m n) refl where
 module _ (a b : Settings) where
   same-sym : sameButYear a b ≡ sameButYear b a
   unfolding sameButYear
-  same-sym = rw (eqb-sym (basicIn a) (basicIn b), eqb-sym (dateIn a) (dateIn b), eqb-sym (timeIn a) (timeIn b), eqb-sym (zoneIn a) (zoneIn b))
+  same-sym =
+      rw (
+        eqb-sym (basicIn a) (basicIn b),
+        eqb-sym (dateIn a) (dateIn b),
+        eqb-sym (timeIn a) (timeIn b),
+        eqb-sym (zoneIn a) (zoneIn b),
+        eqb-sym (intervalIn a) (intervalIn b),
+      )
 
   equal-sym : equalLists a b ≡ equalLists b a
   unfolding equalLists
@@ -44,18 +52,12 @@ years-swap : (x y : ℕ) → yearsOf (x ∷ y ∷ []) ≡ yearsOf (y ∷ x ∷ [
 unfolding yearsOf
 years-swap x y = rw (member-swap 1 x y, member-swap 2 x y, member-swap 3 x y, member-swap 4 x y)
 
-fourth : (a b c d : Bool) → a && b && c && d ≡ true → (a ≡ true) × (b ≡ true) × (c ≡ true) × (d ≡ true)
-fourth true true true true e = (refl, refl, refl, refl)
-fourth true true true false e = absurd (false≢true e)
-fourth true true false d e = absurd (false≢true e)
-fourth true false c d e = absurd (false≢true e)
-fourth false b c d e = absurd (false≢true e)
-
 type-swap : (a b : Settings) → sameButYear a b ≡ true →
     listType a (yearIn a ∷ yearIn b ∷ []) ≡ listType b (yearIn b ∷ yearIn a ∷ [])
 unfolding sameButYear listType
 type-swap a b e =
-    let p = fourth (eqb (basicIn a) (basicIn b)) (eqb (dateIn a) (dateIn b)) (eqb (timeIn a) (timeIn b)) (eqb (zoneIn a) (zoneIn b)) e in
+    let p = five-hold (eqb (basicIn a) (basicIn b)) (eqb (dateIn a) (dateIn b)) (eqb (timeIn a) (timeIn b)) (eqb (zoneIn a) (zoneIn b))
+    (eqb (intervalIn a) (intervalIn b)) e in
     let h : basicIn a ≡ basicIn b = eqb-true _ _ (p .0) in
     let d : dateIn a ≡ dateIn b = eqb-true _ _ (p .1) in
     let t : timeIn a ≡ timeIn b = eqb-true _ _ (p .2) in
@@ -86,9 +88,13 @@ unfolding lacks
 has-bar [] b = refl
 has-bar (x ∷ a) b = rw (has-bar a b) (and-false (not (eqb x 124)))
 
-names-lack : (lacks 124 (bytes "DATE") ≡ true) × (lacks 124 (bytes "TIME-OF-DAY") ≡ true) × (lacks 124 (bytes "DATE-TIME") ≡ true)
+names-lack :
+    (lacks 124 (bytes "DATE") ≡ true)
+    × (lacks 124 (bytes "TIME-OF-DAY") ≡ true)
+    × (lacks 124 (bytes "DATE-TIME") ≡ true)
+    × (lacks 124 (bytes "DURATION") ≡ true)
 unfolding lacks
-names-lack = (refl, refl, refl)
+names-lack = (refl, refl, refl, refl)
 
 -- Two texts with a bar between them are two lists.
 pub two-texts : (limits : Limits) (a b : List ℕ) → lacks 124 a ≡ true → lacks 124 b ≡ true →
@@ -100,6 +106,7 @@ two-texts limits a b h k =
       not-it 124 _ _ e (names-lack .0),
       not-it 124 _ _ e (names-lack .1),
       not-it 124 _ _ e (names-lack .2),
+      not-it 124 _ _ e (names-lack .3),
       split-join 124 a (b ∷ []) refl (rw (h, k)),
     )
 

@@ -7,12 +7,13 @@ use Prim.Native.Nat.{ℕ}
 use native.Mathlib.Omega.{arith}
 use Rattle.octets.specs.Octets.{bytes, eqList}
 use Rattle.octets.specs.Pieces.{splitOn}
-use Rattle.lists.specs.Lists.{yearIn, listOf}
-use Rattle.types.specs.Types.{DATE, TIME-OF-DAY, DATE-TIME, hasDate, hasTime, carrying, limitedTo, partsOf, placed}
+use Rattle.lists.specs.Lists.{basicIn, yearIn, listOf}
+use Rattle.types.specs.AnyTypes.{DURATION, carrying, datedType, limitedTo, timedType}
+use Rattle.types.specs.Types.{DATE, TIME-OF-DAY, DATE-TIME, placed}
 use Rattle.lists.specs.declared.lists.Settings.{Settings}
+use Rattle.types.specs.declared.types.AnyType.{AnyType}
 use Rattle.types.specs.declared.types.Limits.{Limits}
 use Rattle.types.specs.declared.types.TypeRead.{TypeRead}
-use Rattle.types.specs.declared.types.«Type».{«Type»}
 use Rattle.type_texts.specs.TypeTexts.{allOf, distinct, equalLists, joined, listType, listsOf, oneRow, typeOf, usable}
 use Rattle.type_texts.specs.Written.{joinWith}
 use Rattle.type_texts.proofs.Laws.Converse.{split-lacks, too-many}
@@ -69,9 +70,9 @@ module _ (limits : Limits) (l : List ℕ) (r : TwoRows limits l) where
       ap (typeOf limits) (r .text-is) ∙ two-texts limits (r .first) (r .second) (r .no-bar .0) (r .no-bar .1)
       ∙ joined-apart limits (r .first) (r .second) (r .readable) lists-differ two-rows
 
-limited-not : (limits : Limits) (t : «Type») → limitedTo limits t ≡ TypeRead.NoRow → ⊥
+limited-not : (limits : Limits) (t : AnyType) → limitedTo limits t ≡ TypeRead.NoRow → ⊥
 unfolding limitedTo
-limited-not limits t = go (placed limits (hasDate (partsOf t)) (hasTime (partsOf t)))
+limited-not limits t = go (placed limits (datedType t) (timedType t))
   where
     go : (b : Bool) → cond b (TypeRead.«Type» (carrying limits t)) TypeRead.Unreadable ≡ TypeRead.NoRow → ⊥
     go true e = let z : _≡_ {A = ℕ} 0 1 = cc in omega arith
@@ -123,28 +124,31 @@ module _ (limits : Limits) (l : List ℕ) where
       go (p ∷ q ∷ o ∷ ps) e k j = absurd (too-many (map listOf ps) (allOf (usable limits) (map listOf (p ∷ q ∷ o ∷ ps)))
           (distinct (map listOf (p ∷ q ∷ o ∷ ps))) (passed _ _ j .0))
 
+  -- A name never gives refusal 2.
+  by-name : (n : AnyType) (b : Bool) (x : TypeRead) → cond b (limitedTo limits n) x ≡ TypeRead.NoRow → x ≡ TypeRead.NoRow
+  by-name n true x j = absurd (limited-not limits n j)
+  by-name n false x j = j
+
   -- Only two lists that don't make one row are refusal 2.
   pub no-row-only : typeOf limits l ≡ TypeRead.NoRow → TwoRows limits l
   unfolding typeOf
-  no-row-only = date-name (eqList l (bytes "DATE"))
-    where
-      both-name : (b : Bool) → cond b (limitedTo limits DATE-TIME) (joined limits (listsOf l)) ≡ TypeRead.NoRow → TwoRows limits l
-      both-name true j = absurd (limited-not limits DATE-TIME j)
-      both-name false j = lists-apart j
+  no-row-only j =
+      lists-apart
+      (by-name DURATION (eqList l (bytes "DURATION")) _
+      (by-name (AnyType.Point DATE-TIME) (eqList l (bytes "DATE-TIME")) _
+      (by-name (AnyType.Point TIME-OF-DAY) (eqList l (bytes "TIME-OF-DAY")) _ (by-name (AnyType.Point DATE) (eqList l (bytes "DATE")) _ j))))
 
-      time-name : (b : Bool)
-          → cond b (limitedTo limits TIME-OF-DAY)
-          (cond (eqList l (bytes "DATE-TIME")) (limitedTo limits DATE-TIME) (joined limits (listsOf l)))
-          ≡ TypeRead.NoRow
-          → TwoRows limits l
-      time-name true j = absurd (limited-not limits TIME-OF-DAY j)
-      time-name false j = both-name (eqList l (bytes "DATE-TIME")) j
-
-      date-name : (b : Bool)
-          → cond b (limitedTo limits DATE)
-          (cond (eqList l (bytes "TIME-OF-DAY")) (limitedTo limits TIME-OF-DAY)
-          (cond (eqList l (bytes "DATE-TIME")) (limitedTo limits DATE-TIME) (joined limits (listsOf l))))
-          ≡ TypeRead.NoRow
-          → TwoRows limits l
-      date-name true j = absurd (limited-not limits DATE j)
-      date-name false j = time-name (eqList l (bytes "TIME-OF-DAY")) j
+-- Two lists that can be read and differ in Basic, as one of durations beside one of points, are refusal 2.
+pub two-basics : (limits : Limits) (a b : List ℕ) → (lacks 124 a ≡ true) × (lacks 124 b ≡ true)
+    → (usable limits (listOf a) ≡ true) × (usable limits (listOf b) ≡ true) → (basicIn (listOf a) ≡ basicIn (listOf b) → ⊥)
+    → typeOf limits (a ++ 124 ∷ b) ≡ TypeRead.NoRow
+two-basics limits a b n u d =
+    no-row-given limits (a ++ 124 ∷ b) (record {
+      first = a;
+      second = b;
+      text-is = refl;
+      no-bar = n;
+      readable = u;
+      differ = λ e. d (ap (λ (s : Settings). basicIn s) e);
+      apart = λ o. d (o .basic-is);
+    })

@@ -7,12 +7,12 @@ use Prim.Native.Nat.{ℕ}
 use native.Mathlib.Omega.{arith}
 use lib.Dec.{eqb}
 use borrow.Author.Tests.{eq-eqb, eqb-true}
-use Rattle.lists.specs.Lists.{settings, basicIn, dateIn, yearIn, timeIn, zoneIn, listOf}
+use Rattle.lists.specs.Lists.{settings, basicIn, dateIn, yearIn, timeIn, zoneIn, intervalIn, datedList, listOf}
 use Rattle.lists.specs.declared.lists.Settings.{Settings}
 use Rattle.type_texts.specs.TypeTexts.{equalLists, oneRow, sameButYear, yearFamily}
 use Rattle.type_texts.specs.Written.{YearSetting, basic, proleptic, negative, five}
-use Rattle.type_texts.proofs.Laws.Arranged.{ListOf, a-date, a-time, a-date-time, list-arranged}
-use Rattle.type_texts.proofs.Laws.Converse.{four-hold}
+use Rattle.type_texts.proofs.Laws.Arranged.{ListOf, a-date, a-time, a-date-time, a-duration, list-arranged}
+use Rattle.type_texts.proofs.Laws.Tests.{five-hold}
 use Rattle.type_texts.proofs.Laws.Written.{yearNumber}
 
 -- "Basic with Proleptic or Negative with L5", in either order.
@@ -28,6 +28,7 @@ pub record OnlyYears (s t : Settings) : Type 0 where
   pub date-is : dateIn s ≡ dateIn t
   pub time-is : timeIn s ≡ timeIn t
   pub zone-is : zoneIn s ≡ zoneIn t
+  pub interval-is : intervalIn s ≡ intervalIn t
   pub years-are : YearPair (yearIn s) (yearIn t)
 
 eqb-same : (n : ℕ) → eqb n n ≡ true
@@ -37,29 +38,40 @@ eqb-same n = eq-eqb n n refl
 
 same-itself : (s : Settings) → equalLists s s ≡ true
 unfolding equalLists sameButYear
-same-itself s = rw (eqb-same (basicIn s), eqb-same (dateIn s), eqb-same (timeIn s), eqb-same (zoneIn s), eqb-same (yearIn s))
+same-itself s =
+    rw (eqb-same (basicIn s), eqb-same (dateIn s), eqb-same (timeIn s), eqb-same (zoneIn s), eqb-same (intervalIn s), eqb-same (yearIn s))
 
 -- Lists with the same settings test as equal.
 pub same-are-equal : (s t : Settings) → s ≡ t → equalLists s t ≡ true
 same-are-equal s t e = subst (λ (x : Settings). equalLists s x ≡ true) e (same-itself s)
 
--- A list that can be read is its five settings.
-five-settings : (ws : List (List ℕ)) (s : Settings) → ListOf ws s → s ≡ settings (basicIn s ∷ dateIn s ∷ yearIn s ∷ timeIn s ∷ zoneIn s ∷ [])
-five-settings ws s (a-date f y p e) = rw e
-five-settings ws s (a-time t h p e) = rw e
-five-settings ws s (a-date-time f t y h p e) = rw e
+-- A list that can be read is its six settings.
+six-settings : (ws : List (List ℕ)) (s : Settings) → ListOf ws s
+    → s ≡ settings (basicIn s ∷ dateIn s ∷ yearIn s ∷ timeIn s ∷ zoneIn s ∷ intervalIn s ∷ [])
+six-settings ws s (a-date f y p e) = rw e
+six-settings ws s (a-time t h p e) = rw e
+six-settings ws s (a-date-time f t y h p e) = rw e
+six-settings ws s (a-duration p e) = rw e
 
 record SameButYear (s t : Settings) : Type 0 where
   basic-same : basicIn s ≡ basicIn t
   date-same : dateIn s ≡ dateIn t
   time-same : timeIn s ≡ timeIn t
   zone-same : zoneIn s ≡ zoneIn t
+  interval-same : intervalIn s ≡ intervalIn t
 
 but-year : (s t : Settings) → sameButYear s t ≡ true → SameButYear s t
 unfolding sameButYear
 but-year s t e =
-    let p = four-hold (eqb (basicIn s) (basicIn t)) (eqb (dateIn s) (dateIn t)) (eqb (timeIn s) (timeIn t)) (eqb (zoneIn s) (zoneIn t)) e in
-    record { basic-same = eqb-true _ _ (p .0); date-same = eqb-true _ _ (p .1); time-same = eqb-true _ _ (p .2); zone-same = eqb-true _ _ (p .3) }
+    let p = five-hold (eqb (basicIn s) (basicIn t)) (eqb (dateIn s) (dateIn t)) (eqb (timeIn s) (timeIn t)) (eqb (zoneIn s) (zoneIn t))
+    (eqb (intervalIn s) (intervalIn t)) e in
+    record {
+      basic-same = eqb-true _ _ (p .0);
+      date-same = eqb-true _ _ (p .1);
+      time-same = eqb-true _ _ (p .2);
+      zone-same = eqb-true _ _ (p .3);
+      interval-same = eqb-true _ _ (p .4);
+    }
 
 module _ (a b : List ℕ) (h : listOf a .readable ≡ true) (k : listOf b .readable ≡ true) where
   -- Two lists that can be read test as equal only where they have the same settings, in whatever order.
@@ -69,25 +81,31 @@ module _ (a b : List ℕ) (h : listOf a .readable ≡ true) (k : listOf b .reada
       let p : (sameButYear (listOf a) (listOf b) ≡ true) × (eqb (yearIn (listOf a)) (yearIn (listOf b)) ≡ true) = and-eq-true-iff _ _ .0 e in
       let q = but-year (listOf a) (listOf b) (p .0) in
       let y : yearIn (listOf a) ≡ yearIn (listOf b) = eqb-true _ _ (p .1) in
-      five-settings _ (listOf a) (list-arranged a h)
-      ∙ numbers (q .basic-same) (q .date-same) y (q .time-same) (q .zone-same)
-      ∙ sym (five-settings _ (listOf b) (list-arranged b k))
+      six-settings _ (listOf a) (list-arranged a h)
+      ∙ numbers (q .basic-same) (q .date-same) y (q .time-same) (q .zone-same) (q .interval-same)
+      ∙ sym (six-settings _ (listOf b) (list-arranged b k))
     where
-      numbers : {b₁ b₂ d₁ d₂ y₁ y₂ t₁ t₂ z₁ z₂ : ℕ} → b₁ ≡ b₂ → d₁ ≡ d₂ → y₁ ≡ y₂ → t₁ ≡ t₂ → z₁ ≡ z₂
-          → settings (b₁ ∷ d₁ ∷ y₁ ∷ t₁ ∷ z₁ ∷ []) ≡ settings (b₂ ∷ d₂ ∷ y₂ ∷ t₂ ∷ z₂ ∷ [])
-      numbers e₁ e₂ e₃ e₄ e₅ = rw (e₁, e₂, e₃, e₄, e₅)
+      numbers : {b₁ b₂ d₁ d₂ y₁ y₂ t₁ t₂ z₁ z₂ i₁ i₂ : ℕ} → b₁ ≡ b₂ → d₁ ≡ d₂ → y₁ ≡ y₂ → t₁ ≡ t₂ → z₁ ≡ z₂ → i₁ ≡ i₂
+          → settings (b₁ ∷ d₁ ∷ y₁ ∷ t₁ ∷ z₁ ∷ i₁ ∷ []) ≡ settings (b₂ ∷ d₂ ∷ y₂ ∷ t₂ ∷ z₂ ∷ i₂ ∷ [])
+      numbers e₁ e₂ e₃ e₄ e₅ e₆ = rw (e₁, e₂, e₃, e₄, e₅, e₆)
 
 -- ---- One row.
 
--- The Year of a list that can be read: none beside a time, or one of the four.
+-- The Year of a list that can be read: one of the four where there is a date, and otherwise none.
 data YearOf (s : Settings) : Type 0 where
-  no-year : basicIn s ≡ 2 → yearIn s ≡ 0 → YearOf s
-  a-year : (y : YearSetting) → (basicIn s ≡ 2 → ⊥) → yearIn s ≡ yearNumber y → YearOf s
+  no-year : datedList s ≡ false → yearIn s ≡ 0 → YearOf s
+  a-year : (y : YearSetting) → datedList s ≡ true → yearIn s ≡ yearNumber y → YearOf s
 
 year-of : (ws : List (List ℕ)) (s : Settings) → ListOf ws s → YearOf s
-year-of ws s (a-date f y p e) = rw e (a-year y (λ z. omega arith) refl)
+unfolding datedList
+year-of ws s (a-date f y p e) = rw e (a-year y refl refl)
 year-of ws s (a-time t h p e) = rw e (no-year refl refl)
-year-of ws s (a-date-time f t y h p e) = rw e (a-year y (λ z. omega arith) refl)
+year-of ws s (a-date-time f t y h p e) = rw e (a-year y refl refl)
+year-of ws s (a-duration p e) = rw e (no-year refl refl)
+
+dated-same : (s t : Settings) → basicIn s ≡ basicIn t → datedList s ≡ datedList t
+unfolding datedList
+dated-same s t e = rw e
 
 -- Two Years of one family are one, or such a pair.
 family : (x y : YearSetting) → eqb (yearFamily (yearNumber x)) (yearFamily (yearNumber y)) ≡ true
@@ -121,13 +139,20 @@ family-of m n five-negative = refl
 pub only-years-row : (s t : Settings) → OnlyYears s t → oneRow s t ≡ true
 unfolding oneRow sameButYear
 only-years-row s t o =
-    rw (eq-eqb _ _ (o .basic-is), eq-eqb _ _ (o .date-is), eq-eqb _ _ (o .time-is), eq-eqb _ _ (o .zone-is), family-of _ _ (o .years-are))
+    rw (
+      eq-eqb _ _ (o .basic-is),
+      eq-eqb _ _ (o .date-is),
+      eq-eqb _ _ (o .time-is),
+      eq-eqb _ _ (o .zone-is),
+      eq-eqb _ _ (o .interval-is),
+      family-of _ _ (o .years-are),
+    )
 
 one-row-years : (s t : Settings) → YearOf s → YearOf t → basicIn s ≡ basicIn t → eqb (yearFamily (yearIn s)) (yearFamily (yearIn t)) ≡ true
     → (yearIn s ≡ yearIn t) ⊎ YearPair (yearIn s) (yearIn t)
 one-row-years s t (no-year b y) (no-year c z) e f = inl (y ∙ sym z)
-one-row-years s t (no-year b y) (a-year v c z) e f = absurd (c (sym e ∙ b))
-one-row-years s t (a-year u b y) (no-year c z) e f = absurd (b (e ∙ c))
+one-row-years s t (no-year b y) (a-year v c z) e f = absurd (false≢true (sym b ∙ dated-same s t e ∙ c))
+one-row-years s t (a-year u b y) (no-year c z) e f = absurd (false≢true (sym c ∙ sym (dated-same s t e) ∙ b))
 one-row-years s t (a-year u b y) (a-year v c z) e f = rw (y, z) (family u v (rw (y, z) at f))
 
 module _ (a b : List ℕ) (h : listOf a .readable ≡ true) (k : listOf b .readable ≡ true) where
@@ -143,4 +168,11 @@ module _ (a b : List ℕ) (h : listOf a .readable ≡ true) (k : listOf b .reada
           → (yearIn (listOf a) ≡ yearIn (listOf b)) ⊎ YearPair (yearIn (listOf a)) (yearIn (listOf b))
           → (listOf a ≡ listOf b) ⊎ OnlyYears (listOf a) (listOf b)
       go s q (inl y) = inl (equal-are-same a b h k (rw (s, eq-eqb _ _ y)))
-      go s q (inr y) = inr (record { basic-is = q .basic-same; date-is = q .date-same; time-is = q .time-same; zone-is = q .zone-same; years-are = y })
+      go s q (inr y) = inr (record {
+        basic-is = q .basic-same;
+        date-is = q .date-same;
+        time-is = q .time-same;
+        zone-is = q .zone-same;
+        interval-is = q .interval-same;
+        years-are = y;
+      })

@@ -7,15 +7,18 @@ use native.Mathlib.Omega.{arith}
 use lib.Dec.{eqb, ltb, leb}
 use lib.ListN.{length, getD, set, take, length-set}
 use lib.Seq.{getD-set-same, getD-set-other}
-use borrow.Author.Tests.{leb-true, le-leb, eqb-true, eqb-false, ne-eqb, not-true}
+use borrow.Author.Tests.{leb-true, le-leb, eqb-true, eqb-false, not-true}
 use Rattle.octets.specs.Octets.{bytes, eqList}
 use Rattle.octets.specs.Pieces.{splitOn}
 use Rattle.octets.proofs.Laws.Cases.{cond-le}
-use Rattle.types.specs.Types.{DATE, TIME-OF-DAY, DATE-TIME, hasDate, hasTime, placed, restricted, limitedTo, someYear, wellParts, wellFormed, partsOf, carrying}
+use Rattle.types.specs.AnyTypes.{DURATION, carrying, datedType, limitedTo, timedType, wellFormed}
+use Rattle.types.specs.Types as Points
+use Rattle.types.specs.Types.{DATE, TIME-OF-DAY, DATE-TIME, placed, restricted, someYear, wellParts}
 use Rattle.lists.specs.Words.{placeIn, yearWords, clockWords, fractionWords, withDigits, fractionNumber, firstNumber, pairOf}
 use Rattle.lists.specs.Lists.{settings, noneYet, refusedList, addPair, addPairs, basicIn, dateIn, yearIn, timeIn, zoneIn, datedList, timedList, presentIf}
-use Rattle.lists.specs.Lists.{complete, completed, listOf}
+use Rattle.lists.specs.Lists.{intervalIn, intervalList, complete, completed, listOf}
 use Rattle.type_texts.specs.TypeTexts.{listsOf, allOf, usable, distinct, oneRow, member, yearsOf, timeAt, listType, joined, typeOf}
+use Rattle.types.specs.declared.types.AnyType.{AnyType}
 use Rattle.types.specs.declared.types.Years.{Years}
 use Rattle.types.specs.declared.types.Parts.{Parts}
 use Rattle.types.specs.declared.types.«Type».{«Type»}
@@ -24,7 +27,8 @@ use Rattle.types.specs.declared.types.TypeRead.{TypeRead}
 use Rattle.lists.specs.declared.words.Pair.{Pair}
 use Rattle.lists.specs.declared.lists.Settings.{Settings}
 use Rattle.lists.proofs.Laws.Words.{place-in}
-use Rattle.lists.proofs.Laws.Lists.{every-pair, five-properties}
+use Rattle.lists.proofs.Laws.Lists.{every-pair, six-properties}
+use Rattle.type_texts.proofs.Laws.Tests.{five-hold}
 
 -- ---- The numbers of a list's Year and Time.
 
@@ -56,6 +60,7 @@ pair-in-range l =
     (record { year = λ e. absurd (omega arith); time = λ e. absurd (omega arith) })
     (record { year = λ e. place-in yearWords l refl; time = λ e. absurd (omega arith) })
     (record { year = λ e. absurd (omega arith); time = λ e. time-le })
+    (record { year = λ e. absurd (omega arith); time = λ e. absurd (omega arith) })
     (λ n. record { year = λ e. absurd (omega arith); time = λ e. absurd (omega arith) }) where
       time-le : firstNumber (placeIn clockWords l) (fractionNumber l) ≤ 99
       time-le =
@@ -63,7 +68,7 @@ pair-in-range l =
           cond-le (eqb (placeIn clockWords l) 0) (fractionNumber l) (placeIn clockWords l) 99 (fraction-le l) (omega arith)
 
 record Bounded (s : Settings) : Type 0 where
-  size : length (s .numbers) ≡ 5
+  size : length (s .numbers) ≡ 6
   year : yearIn s ≤ 4
   time : timeIn s ≤ 99
 
@@ -81,7 +86,7 @@ add-bounded s l b = go (s .readable && (ltb 0 (p .setting) && eqb (getD (s .numb
 
   go : (t : Bool) → Bounded (cond t (settings (set (s .numbers) (p .property) (p .setting))) refusedList)
   go true =
-      let h : p .property < length (s .numbers) = rw (b .size) (five-properties l) in
+      let h : p .property < length (s .numbers) = rw (b .size) (six-properties l) in
       record {
         size = length-set (s .numbers) (p .property) (p .setting) ∙ b .size;
         year = set-le (s .numbers) (p .property) (p .setting) 2 4 h (pair-in-range l .year) (b .year);
@@ -137,18 +142,13 @@ some-year (suc (suc (suc (suc zero)))) ys h k = go (member 1 ys) (member 2 ys) w
   go false false = or-true (member 3 ys)
 some-year (suc (suc (suc (suc (suc n))))) ys h k = absurd (omega arith)
 
-third : (a b c d e : Bool) → a && b && c && d && e ≡ true → c ≡ true
-third true true true d e h = refl
-third true true false d e h = absurd (false≢true h)
-third true false c d e h = absurd (false≢true h)
-third false b c d e h = absurd (false≢true h)
-
-dated-year : (s : Settings) → complete s ≡ true → eqb (basicIn s) 2 ≡ false → 0 < yearIn s
-unfolding complete datedList
+dated-year : (s : Settings) → complete s ≡ true → datedList s ≡ true → 0 < yearIn s
+unfolding complete
 dated-year s c e =
-    let z : presentIf (not (eqb (basicIn s) 2)) (yearIn s) ≡ true = third (not (eqb (basicIn s) 0)) (presentIf (datedList s) (dateIn s))
-    (presentIf (datedList s) (yearIn s)) (presentIf (timedList s) (timeIn s)) (presentIf (timedList s) (zoneIn s)) c in
-    let y : not (eqb (yearIn s) 0) ≡ true = rw e at z in
+    let p = and-eq-true-iff _ (presentIf (intervalList s) (intervalIn s)) .0 c in
+    let q = five-hold (not (eqb (basicIn s) 0)) (presentIf (datedList s) (dateIn s)) (presentIf (datedList s) (yearIn s)) (presentIf (timedList s) (timeIn s))
+    (presentIf (timedList s) (zoneIn s)) (p .0) in
+    let y : not (eqb (yearIn s) 0) ≡ true = rw e at (q .2) in
     let n : yearIn s ≡ 0 → ⊥ = eqb-false (yearIn s) 0 (not-true _ y) in
     omega arith
 
@@ -157,20 +157,19 @@ unfolding timeAt
 digits-few t z h = le-leb (t / 10) 9 (omega arith)
 
 list-well-formed : (s : Settings) (ys : List ℕ) → Sound s → wellFormed (listType s (yearIn s ∷ ys)) ≡ true
-unfolding listType
-list-well-formed s ys h = go (eqb (basicIn s) 1) (eqb (basicIn s) 2) refl refl where
-  year : eqb (basicIn s) 2 ≡ false → someYear (yearsOf (yearIn s ∷ ys)) ≡ true
+unfolding listType datedList
+list-well-formed s ys h = go (eqb (basicIn s) 1) (eqb (basicIn s) 2) (eqb (basicIn s) 3) refl refl refl where
+  year : datedList s ≡ true → someYear (yearsOf (yearIn s ∷ ys)) ≡ true
   year e = some-year (yearIn s) ys (dated-year s (h .all) e) (h .bounds .year)
 
   few : leb (timeAt (timeIn s) (zoneIn s) .digits) 9 ≡ true
   few = digits-few (timeIn s) (zoneIn s) (h .bounds .time)
 
-  go : (a b : Bool) → eqb (basicIn s) 1 ≡ a → eqb (basicIn s) 2 ≡ b → wellFormed (listType s (yearIn s ∷ ys)) ≡ true
-  go true b e f =
-      let z : basicIn s ≡ 1 = eqb-true _ _ e in
-      rw (e, year (ne-eqb (basicIn s) 2 (λ x. omega arith)))
-  go false true e f = rw (e, f, few)
-  go false false e f = rw (e, f, year f, few)
+  go : (a b c : Bool) → eqb (basicIn s) 1 ≡ a → eqb (basicIn s) 2 ≡ b → eqb (basicIn s) 3 ≡ c → wellFormed (listType s (yearIn s ∷ ys)) ≡ true
+  go true b c e f g = rw (e, year (rw e))
+  go false true c e f g = rw (e, f, few)
+  go false false true e f g = rw (e, f, g, year (rw (e, g)), few)
+  go false false false e f g = rw (e, f, g)
 
 -- ---- What is read is well-formed.
 
@@ -189,15 +188,20 @@ same-parts limits (Parts.Date d) = refl
 same-parts limits (Parts.Time t) = refl
 same-parts limits (Parts.DateTime d t) = refl
 
-same-well : (limits : Limits) (t : «Type») → wellFormed (carrying limits t) ≡ wellFormed t
-same-well limits («Type».Listed p) = same-parts limits p
-same-well limits («Type».Date w) = refl
-same-well limits («Type».TimeOfDay h) = refl
-same-well limits («Type».DateTime w h) = refl
+point-well : (limits : Limits) (t : «Type») → Points.wellFormed (Points.carrying limits t) ≡ Points.wellFormed t
+point-well limits («Type».Listed p) = same-parts limits p
+point-well limits («Type».Date w) = refl
+point-well limits («Type».TimeOfDay h) = refl
+point-well limits («Type».DateTime w h) = refl
 
-good-limited : (limits : Limits) (t : «Type») → wellFormed t ≡ true → Good (limitedTo limits t)
+same-well : (limits : Limits) (t : AnyType) → wellFormed (carrying limits t) ≡ wellFormed t
+same-well limits (AnyType.Point t) = point-well limits t
+same-well limits AnyType.Duration = refl
+same-well limits AnyType.ListedDuration = refl
+
+good-limited : (limits : Limits) (t : AnyType) → wellFormed t ≡ true → Good (limitedTo limits t)
 unfolding limitedTo
-good-limited limits t h = good-cond (placed limits (hasDate (partsOf t)) (hasTime (partsOf t))) _ _ (λ e. same-well limits t ∙ h) tt
+good-limited limits t h = good-cond (placed limits (datedType t) (timedType t)) _ _ (λ e. same-well limits t ∙ h) tt
 
 second : (a b c d e : Bool) → a && (b && c && d) && e ≡ true → b ≡ true
 second true true c d e h = refl
@@ -224,10 +228,11 @@ good-lists limits l = go (splitOn 124 l) where
 good : (limits : Limits) (l : List ℕ) → Good (typeOf limits l)
 unfolding typeOf
 good limits l =
-    good-cond (eqList l (bytes "DATE")) _ _ (λ e. good-limited limits DATE refl)
-    (good-cond (eqList l (bytes "TIME-OF-DAY")) _ _ (λ e. good-limited limits TIME-OF-DAY refl)
-    (good-cond (eqList l (bytes "DATE-TIME")) _ _ (λ e. good-limited limits DATE-TIME refl) (good-lists limits l)))
+    good-cond (eqList l (bytes "DATE")) _ _ (λ e. good-limited limits (AnyType.Point DATE) refl)
+    (good-cond (eqList l (bytes "TIME-OF-DAY")) _ _ (λ e. good-limited limits (AnyType.Point TIME-OF-DAY) refl)
+    (good-cond (eqList l (bytes "DATE-TIME")) _ _ (λ e. good-limited limits (AnyType.Point DATE-TIME) refl)
+    (good-cond (eqList l (bytes "DURATION")) _ _ (λ e. good-limited limits DURATION refl) (good-lists limits l))))
 
 -- Every type that is read is well-formed.
-pub read-well-formed : (limits : Limits) (l : List ℕ) (t : «Type») → typeOf limits l ≡ TypeRead.«Type» t → wellFormed t ≡ true
+pub read-well-formed : (limits : Limits) (l : List ℕ) (t : AnyType) → typeOf limits l ≡ TypeRead.«Type» t → wellFormed t ≡ true
 read-well-formed limits l t e = subst Good e (good limits l)

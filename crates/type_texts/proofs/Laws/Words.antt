@@ -15,13 +15,13 @@ use Rattle.lists.specs.declared.words.Pair.{Pair}
 use Rattle.lists.specs.declared.lists.Settings.{Settings}
 use Rattle.lists.proofs.Laws.Spelled as spelled
 use Rattle.lists.proofs.Laws.Spelled.{Word as Spelled, date-Y, date-YM, date-YMD, date-YD, date-YW, date-YWD, year-basic, year-proleptic, year-negative}
-use Rattle.lists.proofs.Laws.Spelled.{year-L5, time-H, time-HM, time-HMS, time-HF, time-HMF, time-HMSF, zone-L, zone-Z, zone-LD}
+use Rattle.lists.proofs.Laws.Spelled.{year-L5, time-H, time-HM, time-HMS, time-HF, time-HMF, time-HMSF, zone-L, zone-Z, zone-LD, interval-D}
 use Rattle.texts.specs.declared.forms.DateForm.{DateForm}
 use Rattle.texts.specs.declared.forms.ClockForm.{ClockForm}
 use Rattle.texts.specs.declared.forms.ZoneForm.{ZoneForm}
 use Rattle.types.specs.Numbers.{dateNumber, zoneNumber}
+use Rattle.types.specs.declared.types.AnyType.{AnyType}
 use Rattle.types.specs.declared.types.TypeRead.{TypeRead}
-use Rattle.types.specs.declared.types.«Type».{«Type»}
 use Rattle.type_texts.specs.Written.{YearSetting, basic, proleptic, negative, five, dateWord, yearWord, clockWord, timeWord, zoneWord, joinWith, typeText}
 use Rattle.type_texts.proofs.Laws.Written.{yearNumber, timeCode}
 
@@ -32,10 +32,12 @@ pub data SettingWord : List ℕ → Pair → Type 0 where
   basic-date : SettingWord (bytes "Basic=Date") (pair 0 1)
   basic-time : SettingWord (bytes "Basic=Time") (pair 0 2)
   basic-date-time : SettingWord (bytes "Basic=Date-Time") (pair 0 3)
+  basic-interval : SettingWord (bytes "Basic=Interval") (pair 0 4)
   date : (f : DateForm) → SettingWord (dateWord f) (pair 1 (dateNumber f))
   year : (y : YearSetting) → SettingWord (yearWord y) (pair 2 (yearNumber y))
   time : (c : ClockForm) (n : ℕ) → n ≤ 9 → SettingWord (timeWord c n) (pair 3 (timeCode c n))
   zone : (z : ZoneForm) → SettingWord (zoneWord z) (pair 4 (zoneNumber z))
+  interval : SettingWord (bytes "Interval-type=D") (pair 5 1)
 
 -- The word of a Time setting with a fraction, with its property and its number.
 fraction : (c : ClockForm) (n : ℕ) → 1 ≤ n → n ≤ 9 → SettingWord (clockWord c ++ bytes "F" ++ (48 + n) ∷ []) (pair 3 (timeCode c n))
@@ -46,6 +48,7 @@ settings-word : (w : List ℕ) (p : Pair) → Spelled w p → SettingWord w p
 settings-word w p spelled.basic-date = basic-date
 settings-word w p spelled.basic-time = basic-time
 settings-word w p spelled.basic-date-time = basic-date-time
+settings-word w p spelled.basic-interval = basic-interval
 settings-word w p date-Y = date DateForm.Y
 settings-word w p date-YM = date DateForm.YM
 settings-word w p date-YMD = date DateForm.YMD
@@ -65,6 +68,7 @@ settings-word w p (time-HMSF n h k) = fraction ClockForm.HMS n h k
 settings-word w p zone-L = zone ZoneForm.L
 settings-word w p zone-Z = zone ZoneForm.Z
 settings-word w p zone-LD = zone ZoneForm.LD
+settings-word w p interval-D = interval
 
 -- A text that is read as a setting is the word of that setting.
 pub setting-spelled : (w : List ℕ) → 0 < pairOf w .setting → SettingWord w (pairOf w)
@@ -138,6 +142,6 @@ unfolding typeText
 type-text l ls e = sym (rw (joined-pieces ls, ← e) (join-split 124 l))
 
 -- What is read passed the test.
-pub kept : (b : Bool) (x : TypeRead) (t : «Type») → cond b x TypeRead.Unreadable ≡ TypeRead.«Type» t → b ≡ true
+pub kept : (b : Bool) (x : TypeRead) (t : AnyType) → cond b x TypeRead.Unreadable ≡ TypeRead.«Type» t → b ≡ true
 kept true x t h = refl
 kept false x t h = absurd (let z : _≡_ {A = ℕ} 0 1 = cc in omega arith)

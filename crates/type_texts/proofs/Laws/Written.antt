@@ -10,17 +10,19 @@ use borrow.Author.Tests.{lt-ltb, ne-eqb, eq-eqb, eqb-true, eqb-false, not-true}
 use Rattle.octets.specs.Octets.{bytes, eqList}
 use Rattle.octets.proofs.Laws.Octets.{equal}
 use Rattle.types.specs.Numbers.{dateNumber, dateAt, clockNumber, clockAt, zoneNumber, zoneAt}
-use Rattle.types.specs.Types.{unlimitedDate, unlimitedTime, listed, hasDate, hasTime, placed, limitedTo, someYear}
+use Rattle.types.specs.Types.{unlimitedDate, unlimitedTime, listed, hasDate, hasTime, placed, someYear}
+use Rattle.types.specs.AnyTypes.{limitedTo}
 use Rattle.lists.specs.Words.{placeFrom, fractionNumber, pair, pairOf}
-use Rattle.lists.specs.Lists.{settings, noneYet, addPair, addPairs, datedList, timedList, complete, completed, listOf}
+use Rattle.lists.specs.Lists.{settings, noneYet, addPair, addPairs, datedList, timedList, intervalList, complete, completed, listOf}
 use Rattle.type_texts.specs.TypeTexts.{listsOf, sameButYear, yearFamily, oneRow, equalLists, allOf, distinct, usable, member, yearsOf, timeAt, listType}
 use Rattle.type_texts.specs.TypeTexts.{joined, typeOf}
 use Rattle.type_texts.specs.Written.{dateWord, YearSetting, basic, proleptic, negative, five, yearWord, clockWord, timeWord, zoneWord, datePairs}
-use Rattle.type_texts.specs.Written.{timePairs, dateTimePairs, namedYears, joinWith, typeText, Arranged, end, more}
+use Rattle.type_texts.specs.Written.{timePairs, dateTimePairs, durationPairs, namedYears, joinWith, typeText, Arranged, end, more}
 use Rattle.texts.specs.declared.forms.DateForm.{DateForm}
 use Rattle.texts.specs.declared.forms.ClockForm.{ClockForm}
 use Rattle.texts.specs.declared.forms.ZoneForm.{ZoneForm}
 use Rattle.texts.specs.declared.forms.TimeForm.{TimeForm}
+use Rattle.types.specs.declared.types.AnyType.{AnyType}
 use Rattle.types.specs.declared.types.Years.{Years}
 use Rattle.types.specs.declared.types.DateType.{DateType}
 use Rattle.types.specs.declared.types.TimeType.{TimeType}
@@ -28,15 +30,22 @@ use Rattle.types.specs.declared.types.Parts.{Parts}
 use Rattle.types.specs.declared.types.Limits.{Limits}
 use Rattle.types.specs.declared.types.TypeRead.{TypeRead}
 use Rattle.lists.specs.declared.lists.Settings.{Settings}
-use Rattle.lists.proofs.Laws.Spelled.{time-HF, time-HMF, time-HMSF, word-read}
+use Rattle.lists.proofs.Laws.Spelled.{interval-D, time-HF, time-HMF, time-HMSF, word-read}
 use Rattle.type_texts.proofs.Laws.Joining.{lacks, split-join, lacks-join, has-join, all-perm, all-weaken, length-perm}
 use Rattle.lists.proofs.Laws.Order.{pairs-perm}
 
 -- ---- The words give the numbers of the settings, and the numbers give the settings back.
 
-basic-pairs : (pairOf (bytes "Basic=Date") ≡ pair 0 1) × (pairOf (bytes "Basic=Time") ≡ pair 0 2) × (pairOf (bytes "Basic=Date-Time") ≡ pair 0 3)
+basic-pairs :
+    (pairOf (bytes "Basic=Date") ≡ pair 0 1)
+    × (pairOf (bytes "Basic=Time") ≡ pair 0 2)
+    × (pairOf (bytes "Basic=Date-Time") ≡ pair 0 3)
+    × (pairOf (bytes "Basic=Interval") ≡ pair 0 4)
 unfolding pairOf placeFrom eqList
-basic-pairs = (refl, refl, refl)
+basic-pairs = (refl, refl, refl, refl)
+
+interval-pair : pairOf (bytes "Interval-type=D") ≡ pair 5 1
+interval-pair = word-read _ _ interval-D
 
 record DateSetting (f : DateForm) : Type 0 where
   word : pairOf (dateWord f) ≡ pair 1 (dateNumber f)
@@ -127,22 +136,26 @@ time-back t =
 
 -- The settings of a list with a date.
 abbrev pub dateList : DateForm → YearSetting → Settings
-dateList f y = settings (1 ∷ dateNumber f ∷ yearNumber y ∷ 0 ∷ 0 ∷ [])
+dateList f y = settings (1 ∷ dateNumber f ∷ yearNumber y ∷ 0 ∷ 0 ∷ 0 ∷ [])
 
 -- The settings of a list with a time.
 abbrev pub timeList : TimeForm → Settings
-timeList t = settings (2 ∷ 0 ∷ 0 ∷ timeCode (t .clock) (t .digits) ∷ zoneNumber (t .zone) ∷ [])
+timeList t = settings (2 ∷ 0 ∷ 0 ∷ timeCode (t .clock) (t .digits) ∷ zoneNumber (t .zone) ∷ 0 ∷ [])
 
 -- The settings of a list with a date and a time.
 abbrev pub dateTimeList : DateForm → TimeForm → YearSetting → Settings
-dateTimeList f t y = settings (3 ∷ dateNumber f ∷ yearNumber y ∷ timeCode (t .clock) (t .digits) ∷ zoneNumber (t .zone) ∷ [])
+dateTimeList f t y = settings (3 ∷ dateNumber f ∷ yearNumber y ∷ timeCode (t .clock) (t .digits) ∷ zoneNumber (t .zone) ∷ 0 ∷ [])
+
+-- The settings of a list of durations.
+abbrev pub durationList : Settings
+durationList = settings (4 ∷ 0 ∷ 0 ∷ 0 ∷ 0 ∷ 1 ∷ [])
 
 not-zero : (n : ℕ) → 0 < n → eqb n 0 ≡ false
 not-zero n h = ne-eqb n 0 (λ z. omega arith)
 
 -- The pairs of a list with a date give its settings.
 pub date-list : (f : DateForm) (y : YearSetting) → completed (addPairs (settings noneYet) (datePairs f y)) ≡ dateList f y
-unfolding completed complete datedList timedList addPairs addPair
+unfolding completed complete datedList timedList intervalList addPairs addPair
 date-list f y =
     let d = date-setting f in
     let v = year-setting y in
@@ -150,7 +163,7 @@ date-list f y =
 
 -- The pairs of a list with a time give its settings.
 pub time-list : (t : TimeForm) → t .digits ≤ 9 → completed (addPairs (settings noneYet) (timePairs t)) ≡ timeList t
-unfolding completed complete datedList timedList addPairs addPair
+unfolding completed complete datedList timedList intervalList addPairs addPair
 time-list t k =
     let s : 0 < timeCode (t .clock) (t .digits) = omega (arith, clock-setting (t .clock) .some) in
     let z = zone-setting (t .zone) in
@@ -159,7 +172,7 @@ time-list t k =
 -- The pairs of a list with a date and a time give its settings.
 pub date-time-list : (f : DateForm) (t : TimeForm) → t .digits ≤ 9 → (y : YearSetting) →
     completed (addPairs (settings noneYet) (dateTimePairs f t y)) ≡ dateTimeList f t y
-unfolding completed complete datedList timedList addPairs addPair
+unfolding completed complete datedList timedList intervalList addPairs addPair
 date-time-list f t k y =
     let d = date-setting f in
     let v = year-setting y in
@@ -181,6 +194,11 @@ date-time-list f t k y =
       not-zero _ (z .some),
     )
 
+-- The pairs of a list of durations give its settings.
+pub duration-list : completed (addPairs (settings noneYet) durationPairs) ≡ durationList
+unfolding completed complete datedList timedList intervalList addPairs addPair
+duration-list = rw (basic-pairs .3, interval-pair)
+
 -- ---- A list's text, its pairs in any order.
 
 -- A word has no space, no bar, and an equals sign.
@@ -188,9 +206,18 @@ unfoldable pub isWord : List ℕ → Bool
 isWord w = lacks 32 w && (lacks 124 w && not (lacks 61 w))
 
 -- Every pair of Basic is a word.
-pub basic-words : (isWord (bytes "Basic=Date") ≡ true) × (isWord (bytes "Basic=Time") ≡ true) × (isWord (bytes "Basic=Date-Time") ≡ true)
+pub basic-words :
+    (isWord (bytes "Basic=Date") ≡ true)
+    × (isWord (bytes "Basic=Time") ≡ true)
+    × (isWord (bytes "Basic=Date-Time") ≡ true)
+    × (isWord (bytes "Basic=Interval") ≡ true)
 unfolding isWord lacks
-basic-words = (refl, refl, refl)
+basic-words = (refl, refl, refl, refl)
+
+-- The pair of Interval-type is a word.
+pub interval-is-word : isWord (bytes "Interval-type=D") ≡ true
+unfolding isWord lacks
+interval-is-word = refl
 
 -- Every pair of Date is a word.
 pub date-is-word : (f : DateForm) → isWord (dateWord f) ≡ true
@@ -268,9 +295,13 @@ not-it c a b h k = go (eqList a b) refl where
   go true e = absurd (false≢true (sym h ∙ ap (lacks c) (equal a b e) ∙ k))
   go false e = refl
 
-names-lack : (lacks 61 (bytes "DATE") ≡ true) × (lacks 61 (bytes "TIME-OF-DAY") ≡ true) × (lacks 61 (bytes "DATE-TIME") ≡ true)
+names-lack :
+    (lacks 61 (bytes "DATE") ≡ true)
+    × (lacks 61 (bytes "TIME-OF-DAY") ≡ true)
+    × (lacks 61 (bytes "DATE-TIME") ≡ true)
+    × (lacks 61 (bytes "DURATION") ≡ true)
 unfolding lacks
-names-lack = (refl, refl, refl)
+names-lack = (refl, refl, refl, refl)
 
 module _ (f : YearSetting → List (List ℕ)) (g : YearSetting → Settings) (k : (y : YearSetting) (ws : List (List ℕ)) → List·Permᴰ ws (f y) → ListText ws (g y))
   where
@@ -297,6 +328,7 @@ module _ (f : YearSetting → List (List ℕ)) (g : YearSetting → Settings) (k
           not-it 61 _ _ e (names-lack .0),
           not-it 61 _ _ e (names-lack .1),
           not-it 61 _ _ e (names-lack .2),
+          not-it 61 _ _ e (names-lack .3),
           split-join 124 (joinWith 32 ws) (map (joinWith 32) wss) refl (no-bars (y ∷ ys) (more d r)),
           k y ws d .reads,
           lists-read ys r,
@@ -304,8 +336,12 @@ module _ (f : YearSetting → List (List ℕ)) (g : YearSetting → Settings) (k
 
 -- ---- The lists of a type make the type.
 
-abbrev listAt : (b d t z y : ℕ) → Settings
-listAt b d t z y = settings (b ∷ d ∷ y ∷ t ∷ z ∷ [])
+abbrev listAt : (b d t z i y : ℕ) → Settings
+listAt b d t z i y = settings (b ∷ d ∷ y ∷ t ∷ z ∷ i ∷ [])
+
+-- Whether limits have their place in a list with this Basic.
+abbrev placedAt : Limits → ℕ → Bool
+placedAt limits b = placed limits (eqb b 1 || eqb b 3) (eqb b 2 || eqb b 3)
 
 abbrev whereSo : Bool → TypeRead → TypeRead
 whereSo k r = cond k r TypeRead.Unreadable
@@ -313,18 +349,18 @@ whereSo k r = cond k r TypeRead.Unreadable
 self : (n : ℕ) → eqb n n ≡ true
 self n = eq-eqb n n refl
 
-one-joined : (limits : Limits) (b d t z y : ℕ) (k : Bool) → placed limits (not (eqb b 2)) (not (eqb b 1)) ≡ k →
-    joined limits (listAt b d t z y ∷ []) ≡ whereSo k (limitedTo limits (listType (listAt b d t z 0) (y ∷ [])))
+one-joined : (limits : Limits) (b d t z i y : ℕ) (k : Bool) → placedAt limits b ≡ k →
+    joined limits (listAt b d t z i y ∷ []) ≡ whereSo k (limitedTo limits (listType (listAt b d t z i 0) (y ∷ [])))
 unfolding joined allOf usable distinct datedList timedList listType
-one-joined limits b d t z y true e = rw e
-one-joined limits b d t z y false e = rw e
+one-joined limits b d t z i y true e = rw e
+one-joined limits b d t z i y false e = rw e
 
-two-joined : (limits : Limits) (b d t z y x : ℕ) (k : Bool) → placed limits (not (eqb b 2)) (not (eqb b 1)) ≡ k →
+two-joined : (limits : Limits) (b d t z i y x : ℕ) (k : Bool) → placedAt limits b ≡ k →
     eqb y x ≡ false → eqb (yearFamily y) (yearFamily x) ≡ true →
-    joined limits (listAt b d t z y ∷ listAt b d t z x ∷ []) ≡ whereSo k (limitedTo limits (listType (listAt b d t z 0) (y ∷ x ∷ [])))
+    joined limits (listAt b d t z i y ∷ listAt b d t z i x ∷ []) ≡ whereSo k (limitedTo limits (listType (listAt b d t z i 0) (y ∷ x ∷ [])))
 unfolding joined allOf usable distinct datedList timedList listType equalLists oneRow sameButYear
-two-joined limits b d t z y x true e n f = rw (e, self b, self d, self t, self z, n, f)
-two-joined limits b d t z y x false e n f = rw e
+two-joined limits b d t z i y x true e n f = rw (e, self b, self d, self t, self z, self i, n, f)
+two-joined limits b d t z i y x false e n f = rw e
 
 abbrev plain : Bool → Bool → Years
 plain a b = Years.Plain (record { basic = a; proleptic = b })
@@ -366,26 +402,26 @@ some-named (Years.Signed y) h = go (y .negative) (y .five) h where
   go false true h = omega arith
   go false false h = absurd (false≢true h)
 
-module _ (limits : Limits) (b d t z : ℕ) (k : Bool) (e : placed limits (not (eqb b 2)) (not (eqb b 1)) ≡ k) where
+module _ (limits : Limits) (b d t z : ℕ) (k : Bool) (e : placedAt limits b ≡ k) where
   abbrev listOfYear : YearSetting → Settings
-  listOfYear y = listAt b d t z (yearNumber y)
+  listOfYear y = listAt b d t z 0 (yearNumber y)
 
   abbrev typeOfYears : Years → TypeRead
-  typeOfYears ys = whereSo k (limitedTo limits (listType (listAt b d t z 0) (numbersOf ys)))
+  typeOfYears ys = whereSo k (limitedTo limits (listType (listAt b d t z 0 0) (numbersOf ys)))
 
   years-joined : (ys : Years) → someYear ys ≡ true → joined limits (map listOfYear (namedYears ys)) ≡ typeOfYears ys
   unfolding yearFamily
   years-joined (Years.Plain y) h = go (y .basic) (y .proleptic) h where
     go : (m n : Bool) → (m || n) ≡ true → joined limits (map listOfYear (namedYears (plain m n))) ≡ typeOfYears (plain m n)
-    go true true h = two-joined limits b d t z 1 2 k e refl refl
-    go true false h = one-joined limits b d t z 1 k e
-    go false true h = one-joined limits b d t z 2 k e
+    go true true h = two-joined limits b d t z 0 1 2 k e refl refl
+    go true false h = one-joined limits b d t z 0 1 k e
+    go false true h = one-joined limits b d t z 0 2 k e
     go false false h = absurd (false≢true h)
   years-joined (Years.Signed y) h = go (y .negative) (y .five) h where
     go : (m n : Bool) → (m || n) ≡ true → joined limits (map listOfYear (namedYears (signed m n))) ≡ typeOfYears (signed m n)
-    go true true h = two-joined limits b d t z 3 4 k e refl refl
-    go true false h = one-joined limits b d t z 3 k e
-    go false true h = one-joined limits b d t z 4 k e
+    go true true h = two-joined limits b d t z 0 3 4 k e refl refl
+    go true false h = one-joined limits b d t z 0 3 k e
+    go false true h = one-joined limits b d t z 0 4 k e
     go false false h = absurd (false≢true h)
 
 abbrev unlimited : Parts → Parts
@@ -399,7 +435,8 @@ twice false r = refl
 
 -- Limits take the place of those that a type had, and may be tested twice.
 limited-again : (limits : Limits) (p : Parts) →
-    whereSo (placed limits (hasDate p) (hasTime p)) (limitedTo limits (listed (unlimited p))) ≡ limitedTo limits (listed p)
+    whereSo (placed limits (hasDate p) (hasTime p)) (limitedTo limits (AnyType.Point (listed (unlimited p))))
+    ≡ limitedTo limits (AnyType.Point (listed p))
 unfolding limitedTo
 limited-again limits (Parts.Date d) = twice (placed limits true false) _
 limited-again limits (Parts.Time t) = twice (placed limits false true) _
@@ -408,23 +445,28 @@ limited-again limits (Parts.DateTime d t) = twice (placed limits true true) _
 module _ (limits : Limits) where
   -- The lists of a type of dates make that type.
   pub date-joined : (d : DateType) → someYear (d .years) ≡ true →
-      joined limits (map (dateList (d .form)) (namedYears (d .years))) ≡ limitedTo limits (listed (Parts.Date d))
+      joined limits (map (dateList (d .form)) (namedYears (d .years))) ≡ limitedTo limits (AnyType.Point (listed (Parts.Date d)))
   unfolding listType
   date-joined d h =
       years-joined limits 1 (dateNumber (d .form)) 0 0 _ refl (d .years) h
       ∙ rw (date-setting (d .form) .back, years-back (d .years) h) (limited-again limits (Parts.Date d))
 
   -- The list of a type of times makes that type.
-  pub time-joined : (t : TimeType) → joined limits (timeList (t .form) ∷ []) ≡ limitedTo limits (listed (Parts.Time t))
+  pub time-joined : (t : TimeType) → joined limits (timeList (t .form) ∷ []) ≡ limitedTo limits (AnyType.Point (listed (Parts.Time t)))
   unfolding listType
   time-joined t =
-      one-joined limits 2 0 (timeCode (t .form .clock) (t .form .digits)) (zoneNumber (t .form .zone)) 0 _ refl
+      one-joined limits 2 0 (timeCode (t .form .clock) (t .form .digits)) (zoneNumber (t .form .zone)) 0 0 _ refl
       ∙ rw (time-back (t .form)) (limited-again limits (Parts.Time t))
 
   -- The lists of a type of dates with times make that type.
   pub date-time-joined : (d : DateType) (t : TimeType) → someYear (d .years) ≡ true →
-      joined limits (map (dateTimeList (d .form) (t .form)) (namedYears (d .years))) ≡ limitedTo limits (listed (Parts.DateTime d t))
+      joined limits (map (dateTimeList (d .form) (t .form)) (namedYears (d .years))) ≡ limitedTo limits (AnyType.Point (listed (Parts.DateTime d t)))
   unfolding listType
   date-time-joined d t h =
       years-joined limits 3 (dateNumber (d .form)) (timeCode (t .form .clock) (t .form .digits)) (zoneNumber (t .form .zone)) _ refl (d .years) h
       ∙ rw (date-setting (d .form) .back, years-back (d .years) h, time-back (t .form)) (limited-again limits (Parts.DateTime d t))
+
+  -- The list of durations makes its type.
+  pub duration-joined : joined limits (durationList ∷ []) ≡ limitedTo limits AnyType.ListedDuration
+  unfolding listType limitedTo
+  duration-joined = one-joined limits 4 0 0 0 1 0 _ refl ∙ twice (placed limits false false) _

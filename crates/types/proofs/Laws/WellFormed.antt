@@ -1,13 +1,17 @@
 -- Which types are well-formed: those that settings or the name of a useful time type can give, under any limits, and no others.
 use mathlib.Core.Path.{_≡_, refl}
 use mathlib.Core.Bool.{Bool, true, false, _||_, or-true}
-use Prim.Native.Nat.{_≤_}
+use Prim.Native.Nat.{ℕ, _≤_}
+use native.Mathlib.Omega.{arith}
 use borrow.Author.Tests.{le-leb, leb-true}
 use Rattle.octets.proofs.Laws.Cases.{both}
 use Rattle.texts.specs.declared.forms.ClockForm.{ClockForm}
 use Rattle.texts.specs.declared.forms.DateForm.{DateForm}
 use Rattle.texts.specs.declared.forms.ZoneForm.{ZoneForm}
-use Rattle.types.specs.Types.{DATE, TIME-OF-DAY, DATE-TIME, fewDigits, listed, nameOf, partsOf, someYear, wellFormed, wellParts}
+use Rattle.types.specs.AnyTypes.{DURATION, nameOf, wellFormed}
+use Rattle.types.specs.Types as Points
+use Rattle.types.specs.Types.{DATE, TIME-OF-DAY, DATE-TIME, fewDigits, listed, partsOf, someYear, wellParts}
+use Rattle.types.specs.declared.types.AnyType.{AnyType}
 use Rattle.types.specs.declared.types.DateType.{DateType}
 use Rattle.types.specs.declared.types.Name.{Name}
 use Rattle.types.specs.declared.types.Parts.{Parts}
@@ -26,13 +30,15 @@ pub data SomeYear : Years → Type 0 where
   five : (y : SignedYears) → y .five ≡ true → SomeYear (Years.Signed y)
 
 -- What settings and names give, whatever the restrictions.
-pub data Givable : «Type» → Type 0 where
-  date-list : (d : DateType) → SomeYear (d .years) → Givable (listed (Parts.Date d))
-  time-list : (t : TimeType) → t .form .digits ≤ 9 → Givable (listed (Parts.Time t))
-  date-time-list : (d : DateType) (t : TimeType) → SomeYear (d .years) → t .form .digits ≤ 9 → Givable (listed (Parts.DateTime d t))
-  DATE-named : (w : Window) → Givable («Type».Date w)
-  TIME-OF-DAY-named : (h : Bool) → Givable («Type».TimeOfDay h)
-  DATE-TIME-named : (w : Window) (h : Bool) → Givable («Type».DateTime w h)
+pub data Givable : AnyType → Type 0 where
+  date-list : (d : DateType) → SomeYear (d .years) → Givable (AnyType.Point (listed (Parts.Date d)))
+  time-list : (t : TimeType) → t .form .digits ≤ 9 → Givable (AnyType.Point (listed (Parts.Time t)))
+  date-time-list : (d : DateType) (t : TimeType) → SomeYear (d .years) → t .form .digits ≤ 9 → Givable (AnyType.Point (listed (Parts.DateTime d t)))
+  duration-list : Givable AnyType.ListedDuration
+  DATE-named : (w : Window) → Givable (AnyType.Point («Type».Date w))
+  TIME-OF-DAY-named : (h : Bool) → Givable (AnyType.Point («Type».TimeOfDay h))
+  DATE-TIME-named : (w : Window) (h : Bool) → Givable (AnyType.Point («Type».DateTime w h))
+  DURATION-named : Givable AnyType.Duration
 
 -- ---- what is given is well-formed
 
@@ -42,13 +48,15 @@ year-test y (proleptic z h) = rw h (or-true (z .basic))
 year-test y (negative z h) = rw h
 year-test y (five z h) = rw h (or-true (z .negative))
 
-pub given-well : (t : «Type») → Givable t → wellFormed t ≡ true
+pub given-well : (t : AnyType) → Givable t → wellFormed t ≡ true
 given-well t (date-list d y) = rw (year-test (d .years) y)
 given-well t (time-list u k) = rw (le-leb (u .form .digits) 9 k)
 given-well t (date-time-list d u y k) = rw (year-test (d .years) y, le-leb (u .form .digits) 9 k)
+given-well t duration-list = refl
 given-well t (DATE-named w) = refl
 given-well t (TIME-OF-DAY-named h) = refl
 given-well t (DATE-TIME-named w h) = refl
+given-well t DURATION-named = refl
 
 -- ---- and what is well-formed is given
 
@@ -64,17 +72,19 @@ one-year (Years.Signed y) h = go (y .negative) refl h
     go true e k = negative y e
     go false e k = five y k
 
-pub well-given : (t : «Type») → wellFormed t ≡ true → Givable t
-well-given («Type».Listed (Parts.Date d)) h = date-list d (one-year (d .years) h)
-well-given («Type».Listed (Parts.Time t)) h = time-list t (leb-true (t .form .digits) 9 h)
-well-given («Type».Listed (Parts.DateTime d t)) h =
+pub well-given : (t : AnyType) → wellFormed t ≡ true → Givable t
+well-given (AnyType.Point («Type».Listed (Parts.Date d))) h = date-list d (one-year (d .years) h)
+well-given (AnyType.Point («Type».Listed (Parts.Time t))) h = time-list t (leb-true (t .form .digits) 9 h)
+well-given (AnyType.Point («Type».Listed (Parts.DateTime d t))) h =
     let p = both (someYear (d .years)) (fewDigits t) h in date-time-list d t (one-year (d .years) (p .0)) (leb-true (t .form .digits) 9 (p .1))
-well-given («Type».Date w) h = DATE-named w
-well-given («Type».TimeOfDay x) h = TIME-OF-DAY-named x
-well-given («Type».DateTime w x) h = DATE-TIME-named w x
+well-given (AnyType.Point («Type».Date w)) h = DATE-named w
+well-given (AnyType.Point («Type».TimeOfDay x)) h = TIME-OF-DAY-named x
+well-given (AnyType.Point («Type».DateTime w x)) h = DATE-TIME-named w x
+well-given AnyType.Duration h = DURATION-named
+well-given AnyType.ListedDuration h = duration-list
 
--- The settings of a well-formed type are such as are listed.
-pub well-settings : (t : «Type») → wellFormed t ≡ true → wellParts (partsOf t) ≡ true
+-- The settings of a well-formed type of points are such as are listed.
+pub well-settings : (t : «Type») → Points.wellFormed t ≡ true → wellParts (partsOf t) ≡ true
 well-settings («Type».Listed p) h = h
 well-settings («Type».Date w) h = refl
 well-settings («Type».TimeOfDay x) h = refl
@@ -102,12 +112,27 @@ DATE-TIME-settings w h = refl
 
 -- A type of a name is told apart by it; settings that are listed have none.
 pub names-told : (p : Parts) (w : Window) (h : Bool)
-    → (nameOf (listed p) ≡ Name.Listed)
-    × (nameOf («Type».Date w) ≡ Name.Date)
-    × (nameOf («Type».TimeOfDay h) ≡ Name.TimeOfDay)
-    × (nameOf («Type».DateTime w h) ≡ Name.DateTime)
-names-told p w h = (refl, refl, refl, refl)
+    → (nameOf (AnyType.Point (listed p)) ≡ Name.Listed)
+    × (nameOf (AnyType.Point («Type».Date w)) ≡ Name.Date)
+    × (nameOf (AnyType.Point («Type».TimeOfDay h)) ≡ Name.TimeOfDay)
+    × (nameOf (AnyType.Point («Type».DateTime w h)) ≡ Name.DateTime)
+    × (nameOf AnyType.Duration ≡ Name.Duration)
+    × (nameOf AnyType.ListedDuration ≡ Name.Listed)
+names-told p w h = (refl, refl, refl, refl, refl, refl)
 
--- The types DATE, TIME-OF-DAY and DATE-TIME are those of that name, without a restriction.
-pub ready-named : (DATE ≡ «Type».Date Window.Every) × (TIME-OF-DAY ≡ «Type».TimeOfDay true) × (DATE-TIME ≡ «Type».DateTime Window.Every true)
-ready-named = (refl, refl, refl)
+-- The name of durations is that of the type DURATION alone.
+pub DURATION-only : (t : AnyType) → nameOf t ≡ Name.Duration → t ≡ DURATION
+DURATION-only (AnyType.Point («Type».Listed p)) e = absurd (let z : _≡_ {A = ℕ} 0 1 = cc in omega arith)
+DURATION-only (AnyType.Point («Type».Date w)) e = absurd (let z : _≡_ {A = ℕ} 0 1 = cc in omega arith)
+DURATION-only (AnyType.Point («Type».TimeOfDay h)) e = absurd (let z : _≡_ {A = ℕ} 0 1 = cc in omega arith)
+DURATION-only (AnyType.Point («Type».DateTime w h)) e = absurd (let z : _≡_ {A = ℕ} 0 1 = cc in omega arith)
+DURATION-only AnyType.Duration e = refl
+DURATION-only AnyType.ListedDuration e = absurd (let z : _≡_ {A = ℕ} 0 1 = cc in omega arith)
+
+-- The types DATE, TIME-OF-DAY, DATE-TIME and DURATION are those of that name, without a restriction.
+pub ready-named :
+    (DATE ≡ «Type».Date Window.Every)
+    × (TIME-OF-DAY ≡ «Type».TimeOfDay true)
+    × (DATE-TIME ≡ «Type».DateTime Window.Every true)
+    × (DURATION ≡ AnyType.Duration)
+ready-named = (refl, refl, refl, refl)

@@ -18,6 +18,9 @@ enum-told-4 c = search needs
 separates-requires : tie.Need-separates-requires
 separates-requires c κs = tt
 
+enum-told-5 : tie.Need-enum-told-5
+enum-told-5 c = search needs
+
 returns : tie.Need-returns
 returns c = search needs
 
@@ -30,6 +33,9 @@ returns-3 c = rw (c .enum-told3 .given .1)
 returns-4 : tie.Need-returns-4
 returns-4 c = rw (c .before .enum-told4 .given .1) (c .separates .ensures)
 
+returns-5 : tie.Need-returns-5
+returns-5 c = rw (c .enum-told5 .given .1)
+
 pub omits-spec : {M : Type 1} → statement M
 omits-spec =
     tie.close
@@ -39,7 +45,9 @@ omits-spec =
     enum-told-3
     enum-told-4
     separates-requires
+    enum-told-5
     returns
     returns-2
     returns-3
-    returns-4)
+    returns-4
+    returns-5)

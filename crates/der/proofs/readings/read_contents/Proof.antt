@@ -29,6 +29,9 @@ enum-told-4 c = search needs
 read-date-time-requires : tie.Need-read-date-time-requires
 read-date-time-requires c κs = search needs
 
+enum-told-5 : tie.Need-enum-told-5
+enum-told-5 c = search needs
+
 returns : tie.Need-returns
 returns c = rw (c .before .enum-told .given .1) (ap ofText (c .read-text .ensures))
 
@@ -40,6 +43,9 @@ returns-3 c = rw (c .before .enum-told3 .given .1) (c .read-fields2 .ensures)
 
 returns-4 : tie.Need-returns-4
 returns-4 c = rw (c .before .enum-told4 .given .1) (c .read-date-time .ensures)
+
+returns-5 : tie.Need-returns-5
+returns-5 c = rw (c .enum-told5 .given .1)
 
 pub read-contents-spec : {M : Type 1} → statement M
 read-contents-spec =
@@ -53,7 +59,9 @@ read-contents-spec =
     read-fields-requires-2
     enum-told-4
     read-date-time-requires
+    enum-told-5
     returns
     returns-2
     returns-3
-    returns-4)
+    returns-4
+    returns-5)

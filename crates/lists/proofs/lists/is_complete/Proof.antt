@@ -80,16 +80,43 @@ present-if-requires-4 c κs = search needs
 returns-5 : tie.Need-returns-5
 unfolding complete
 returns-5 c =
+    let j = c .before .before .before in
+    let k = j .before .before .before .before .before .before in
     rw (
-      ne-eqb _ _ (c .before .before .before .before .before .before .before .before .before .before .before .if1 .left),
-      ← c .before .before .before .before .before .before .before .before .before .before .before .before .before .before .list-has-date .ensures,
-      ← c .before .before .before .before .before .before .before .before .before .before .before .before .before .list-has-time .ensures,
-      sym (c .before .before .before .before .before .before .before .before .before .present-if .ensures)
-          ∙ not-false _ (c .before .before .before .before .before .before .before .before .if2 .left),
-      sym (c .before .before .before .before .before .before .present-if2 .ensures) ∙ not-false _ (c .before .before .before .before .before .if3 .left),
-      sym (c .before .before .before .present-if3 .ensures) ∙ not-false _ (c .before .before .if4 .left),
+      ne-eqb _ _ (k .before .before .before .if1 .left),
+      ← k .before .before .before .before .before .before .list-has-date .ensures,
+      ← k .before .before .before .before .before .list-has-time .ensures,
+      sym (k .before .present-if .ensures) ∙ not-false _ (k .if2 .left),
+      sym (j .before .before .before .before .present-if2 .ensures) ∙ not-false _ (j .before .before .before .if3 .left),
+      sym (j .before .present-if3 .ensures) ∙ not-false _ (j .if4 .left),
+      sym (c .before .present-if4 .ensures) ∙ not-true _ (c .if5 .taken),
     )
-    (c .present-if4 .ensures)
+
+list-has-interval-requires : tie.Need-list-has-interval-requires
+list-has-interval-requires c κs = search needs
+
+element-copy-out-present-if-5 : tie.Need-element-copy-out-present-if-5
+element-copy-out-present-if-5 c = search needs
+
+present-if-requires-5 : tie.Need-present-if-requires-5
+present-if-requires-5 c κs = search needs
+
+returns-6 : tie.Need-returns-6
+unfolding complete
+returns-6 c =
+    let j = c .before .before .before .before .before .before in
+    let k = j .before .before .before .before .before .before in
+    rw (
+      ne-eqb _ _ (k .before .before .before .if1 .left),
+      ← k .before .before .before .before .before .before .list-has-date .ensures,
+      ← k .before .before .before .before .before .list-has-time .ensures,
+      sym (k .before .present-if .ensures) ∙ not-false _ (k .if2 .left),
+      sym (j .before .before .before .before .present-if2 .ensures) ∙ not-false _ (j .before .before .before .if3 .left),
+      sym (j .before .present-if3 .ensures) ∙ not-false _ (j .if4 .left),
+      sym (c .before .before .before .before .present-if4 .ensures) ∙ not-false _ (c .before .before .before .if5 .left),
+      ← c .before .before .list-has-interval .ensures,
+    )
+    (c .present-if5 .ensures)
 
 pub is-complete-spec : {M : Type 1} → statement M
 is-complete-spec =
@@ -110,4 +137,8 @@ is-complete-spec =
     returns-4
     element-copy-out-present-if-4
     present-if-requires-4
-    returns-5)
+    returns-5
+    list-has-interval-requires
+    element-copy-out-present-if-5
+    present-if-requires-5
+    returns-6)

@@ -7,7 +7,7 @@ use borrow.Author.Needs.{needs}
 use Rattle.octets.specs.Pieces.{splitOn}
 use Rattle.octets.proofs.Laws.Pieces.{found-within}
 use Rattle.lists.specs.Lists.{settings, noneYet, addPairs}
-use Rattle.lists.proofs.Laws.Lists.{five-properties, next-pair, last-pair}
+use Rattle.lists.proofs.Laws.Lists.{six-properties, next-pair, last-pair}
 use Rattle.lists.proofs.lists.read_pairs.Statement.{statement}
 use Rattle.lists.proofs.lists.read_pairs.Tie as tie
 
@@ -37,7 +37,7 @@ read-pair-requires : tie.Need-read-pair-requires Inv-loop μ-loop
 read-pair-requires c κs = search needs
 
 add-requires : tie.Need-add-requires Inv-loop μ-loop
-add-requires c κs = rw (c .read-pair .ensures) (five-properties _)
+add-requires c κs = rw (c .read-pair .ensures) (six-properties _)
 
 returns : tie.Need-returns Inv-loop μ-loop
 returns c = sym (c .before .before .before .before .before .before .loop .inv .1

@@ -4,8 +4,8 @@ use native.Mathlib.Omega.{arith}
 use lib.ListN.{List·getD-eq-default}
 use borrow.Author.Needs.{needs}
 use borrow.Author.Tests.{ne-eqb}
-use Rattle.lists.specs.Words.{basicWords, dateWords, yearWords, zoneWords}
-use Rattle.lists.proofs.Laws.Words.{only-table, zone-first}
+use Rattle.lists.specs.Words.{basicWords, dateWords, intervalWords, yearWords, zoneWords}
+use Rattle.lists.proofs.Laws.Words.{only-table, interval-first}
 use Rattle.lists.proofs.words.read_pair.Statement.{statement}
 use Rattle.lists.proofs.words.read_pair.Tie as tie
 
@@ -66,16 +66,29 @@ slice-aggregate-place-in-4 c = search needs
 place-in-requires-4 : tie.Need-place-in-requires-4
 place-in-requires-4 c κs = (zoneWords, (refl, refl))
 
+pair-or-none-requires-5 : tie.Need-pair-or-none-requires-5
+pair-or-none-requires-5 c κs = search needs
+
 returns-6 : tie.Need-returns-6
-returns-6 c =
+returns-6 c = c .pair-or-none5 .ensures ∙ rw (c .before .place-in4 .ensures zoneWords (refl, refl), only-table, c .before .before .before .if6 .taken)
+
+slice-aggregate-place-in-5 : tie.Need-slice-aggregate-place-in-5
+slice-aggregate-place-in-5 c = search needs
+
+place-in-requires-5 : tie.Need-place-in-requires-5
+place-in-requires-5 c κs = (intervalWords, (refl, refl))
+
+returns-7 : tie.Need-returns-7
+returns-7 c =
     rw (
-      c .place-in4 .ensures zoneWords (refl, refl),
+      c .place-in5 .ensures intervalWords (refl, refl),
       only-table,
-      ne-eqb _ _ (c .before .before .before .before .before .if2 .left),
-      ne-eqb _ _ (c .before .before .before .before .if3 .left),
-      ne-eqb _ _ (c .before .before .before .if4 .left),
-      ne-eqb _ _ (c .before .before .if5 .left),
-      zone-first,
+      ne-eqb _ _ (c .before .before .before .before .before .before .if2 .left),
+      ne-eqb _ _ (c .before .before .before .before .before .if3 .left),
+      ne-eqb _ _ (c .before .before .before .before .if4 .left),
+      ne-eqb _ _ (c .before .before .before .if5 .left),
+      ne-eqb _ _ (c .before .before .if6 .left),
+      interval-first,
     )
 
 pub read-pair-spec : {M : Type 1} → statement M
@@ -101,4 +114,8 @@ read-pair-spec =
     returns-5
     slice-aggregate-place-in-4
     place-in-requires-4
-    returns-6)
+    pair-or-none-requires-5
+    returns-6
+    slice-aggregate-place-in-5
+    place-in-requires-5
+    returns-7)

@@ -1,16 +1,42 @@
--- `type_text::limited_list` meets its contract.
+-- `type_text::limited_list` meets its contract: a point's list, or one of durations.
+use mathlib.Core.Path.{_∙_, sym}
+use borrow.Author.Tests.{not-false, not-true}
+use Rattle.type_texts.proofs.Laws.TypeTexts.{pointed}
 use borrow.Author.Needs.{needs}
 use Rattle.settings.proofs.type_text.limited_list.Statement.{statement}
 use Rattle.settings.proofs.type_text.limited_list.Tie as tie
 
-list-type-requires : tie.Need-list-type-requires
-list-type-requires c κs = search needs
+has-point-requires : tie.Need-has-point-requires
+has-point-requires c κs = search needs
 
 limited-requires : tie.Need-limited-requires
 limited-requires c κs = search needs
 
 returns : tie.Need-returns
-returns c = rw (← c .before .list-type .ensures) (c .limited .ensures)
+returns c = rw (pointed, sym (c .before .before .has-point .ensures) ∙ not-true _ (c .before .if1 .taken)) (c .limited .ensures)
+
+point-type-requires : tie.Need-point-type-requires
+point-type-requires c κs = search needs
+
+limited-requires-2 : tie.Need-limited-requires-2
+limited-requires-2 c κs = search needs
+
+returns-2 : tie.Need-returns-2
+returns-2 c =
+    rw (
+      pointed,
+      sym (c .before .before .before .has-point .ensures) ∙ not-false _ (c .before .before .if1 .left),
+      ← c .before .point-type .ensures,
+    )
+    (c .limited2 .ensures)
 
 pub limited-list-spec : {M : Type 1} → statement M
-limited-list-spec = tie.close (tie.spec list-type-requires limited-requires returns)
+limited-list-spec =
+    tie.close
+    (tie.spec
+    has-point-requires
+    limited-requires
+    returns
+    point-type-requires
+    limited-requires-2
+    returns-2)

@@ -1,5 +1,6 @@
 -- `type_text::read_lists` meets its contract.
-use mathlib.Core.Path.{sym}
+use mathlib.Core.Path.{_∙_, ap, sym}
+use Rattle.types.specs.AnyTypes.{foundType}
 use native.Mathlib.Omega.{arith}
 use lib.Seq.{length-take-le}
 use borrow.Author.Needs.{needs}
@@ -10,16 +11,29 @@ use Rattle.settings.proofs.type_text.read_lists.Tie as tie
 find-requires : tie.Need-find-requires
 find-requires c κs = search needs
 
+slice-aggregate-same : tie.Need-slice-aggregate-same
+slice-aggregate-same c = search needs
+
+same-requires : tie.Need-same-requires
+same-requires c κs = search needs
+
+limited-requires : tie.Need-limited-requires
+limited-requires c κs = search needs
+
+returns : tie.Need-returns
+returns c = rw (sym (c .before .before .same .ensures) ∙ c .before .if1 .taken) (c .limited .ensures)
+
 read-list-requires : tie.Need-read-list-requires
 read-list-requires c κs = search needs
 
 one-list-requires : tie.Need-one-list-requires
 one-list-requires c κs = search needs
 
-returns : tie.Need-returns
-returns c =
+returns-2 : tie.Need-returns-2
+returns-2 c =
     rw (
-      one-list _ _ (c .before .before .before .find .ensures) (c .before .before .if1 .taken),
+      sym (c .before .before .before .before .same .ensures) ∙ c .before .before .before .if1 .left,
+      one-list _ _ (c .before .before .before .before .before .before .find .ensures) (c .before .before .if2 .taken),
       ← c .before .read-list .ensures,
     )
     (c .one-list .ensures)
@@ -30,8 +44,13 @@ add-next c = search needs
 find-requires-2 : tie.Need-find-requires-2
 find-requires-2 c κs = search needs
 
-returns-2 : tie.Need-returns-2
-returns-2 c = sym (too-many _ _ _ (c .before .before .before .find .ensures) (c .before .before .if1 .left) (c .before .find2 .ensures) _ (c .if2 .taken))
+returns-3 : tie.Need-returns-3
+returns-3 c =
+    rw (sym (c .before .before .before .before .same .ensures) ∙ c .before .before .before .if1 .left)
+    (sym
+    (ap foundType
+    (too-many _ _ _ (c .before .before .before .before .before .before .find .ensures) (c .before .before .if2 .left) (c .before .find2 .ensures) _
+    (c .if3 .taken))))
 
 slice-aggregate-read-list : tie.Need-slice-aggregate-read-list
 slice-aggregate-read-list c = sym (length-take-le _ _ (omega arith))
@@ -54,12 +73,14 @@ read-list-requires-3 c κs = search needs
 two-lists-requires : tie.Need-two-lists-requires
 two-lists-requires c κs = search needs
 
-returns-3 : tie.Need-returns-3
-returns-3 c =
+returns-4 : tie.Need-returns-4
+returns-4 c =
     rw (
-      two-lists _ _ _ (c .before .before .before .before .before .before .before .before .find .ensures)
-          (c .before .before .before .before .before .before .before .if1 .left) (c .before .before .before .before .before .before .find2 .ensures)
-          (c .before .before .before .before .before .if2 .left),
+      sym (c .before .before .before .before .before .before .before .before .before .same .ensures)
+          ∙ c .before .before .before .before .before .before .before .before .if1 .left,
+      two-lists _ _ _ (c .before .before .before .before .before .before .before .before .before .before .before .find .ensures)
+          (c .before .before .before .before .before .before .before .if2 .left) (c .before .before .before .before .before .before .find2 .ensures)
+          (c .before .before .before .before .before .if3 .left),
       ← c .before .before .before .read-list2 .ensures,
       ← c .before .read-list3 .ensures,
     )
@@ -70,12 +91,16 @@ read-lists-spec =
     tie.close
     (tie.spec
     find-requires
+    slice-aggregate-same
+    same-requires
+    limited-requires
+    returns
     read-list-requires
     one-list-requires
-    returns
+    returns-2
     add-next
     find-requires-2
-    returns-2
+    returns-3
     slice-aggregate-read-list
     read-list-requires-2
     sub-read-list
@@ -83,4 +108,4 @@ read-lists-spec =
     part-read-list-end
     read-list-requires-3
     two-lists-requires
-    returns-3)
+    returns-4)

@@ -40,19 +40,36 @@ returns-3 c =
       ne-eqb _ _ (c .if3 .taken),
     )
 
+element-copy-out-if4 : tie.Need-element-copy-out-if4
+element-copy-out-if4 c = search needs
+
+element-copy-out-if4-2 : tie.Need-element-copy-out-if4-2
+element-copy-out-if4-2 c = search needs
+
+returns-4 : tie.Need-returns-4
+unfolding sameButYear
+returns-4 c =
+    rw (
+      eq-eqb _ _ (c .before .before .before .before .before .before .before .before .before .if1 .left),
+      eq-eqb _ _ (c .before .before .before .before .before .before .if2 .left),
+      eq-eqb _ _ (c .before .before .before .if3 .left),
+      ne-eqb _ _ (c .if4 .taken),
+    )
+
 element-copy-out-result : tie.Need-element-copy-out-result
 element-copy-out-result c = search needs
 
 element-copy-out-result-2 : tie.Need-element-copy-out-result-2
 element-copy-out-result-2 c = search needs
 
-returns-4 : tie.Need-returns-4
+returns-5 : tie.Need-returns-5
 unfolding sameButYear
-returns-4 c =
+returns-5 c =
     rw (
-      eq-eqb _ _ (c .before .before .before .before .before .before .before .before .if1 .left),
-      eq-eqb _ _ (c .before .before .before .before .before .if2 .left),
-      eq-eqb _ _ (c .before .before .if3 .left),
+      eq-eqb _ _ (c .before .before .before .before .before .before .before .before .before .before .before .if1 .left),
+      eq-eqb _ _ (c .before .before .before .before .before .before .before .before .if2 .left),
+      eq-eqb _ _ (c .before .before .before .before .before .if3 .left),
+      eq-eqb _ _ (c .before .before .if4 .left),
     )
 
 pub same-but-year-spec : {M : Type 1} → statement M
@@ -68,6 +85,9 @@ same-but-year-spec =
     element-copy-out-if3
     element-copy-out-if3-2
     returns-3
+    element-copy-out-if4
+    element-copy-out-if4-2
+    returns-4
     element-copy-out-result
     element-copy-out-result-2
-    returns-4)
+    returns-5)

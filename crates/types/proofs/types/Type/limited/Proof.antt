@@ -2,7 +2,7 @@
 use mathlib.Core.Path.{_∙_, sym}
 use borrow.Author.Needs.{needs}
 use borrow.Author.Tests.{not-true, not-false}
-use Rattle.types.specs.Types.{limitedTo}
+use Rattle.types.specs.AnyTypes.{limitedTo}
 use Rattle.types.proofs.types.Type.limited.Statement.{statement}
 use Rattle.types.proofs.types.Type.limited.Tie as tie
 
