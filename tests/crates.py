@@ -14,7 +14,7 @@ import convert_lines  # noqa: E402
 
 PAGE = ROOT / "docs/CRATES.md"
 MADE = re.compile(r"(?<=<!-- made by tests/crates.py: from here -->\n).*?(?=<!-- to here -->)", re.S)
-LINES = re.compile(r"^```text\n((?:\w+;.*\n)+)```\n+```text\n(.*?)^```", re.M | re.S)
+LINES = re.compile(r"^```text\n((?:\w+;[^\n]*\n)+)```\n+```text\n(.*?)^```", re.M | re.S)
 
 
 def text_of(file):

@@ -35,7 +35,7 @@ pub fn deliver(octets: &[u8], bits: Bits, room: &mut [u8]) -> Outcome
     if room.len() < count {
         return Outcome::refused(Refusal::Room);
     }
-    put_octets(room, 0, octets);
+    put_octets(room, 0, &*octets);
     Outcome {
         number: 0,
         bits,

@@ -40,10 +40,10 @@ fn answer_point(entry: Entry, t: Type, input: &[u8], room: &mut [u8]) -> Outcome
     ensures { λ _. ⌜ now (room .exit) ≡ roomOf (answerUnder entry (AnyType.Point t) (now (input .entry))) (now (room .entry)) ⌝ }
 {
     match entry {
-        Entry::PerEncode => per::encode(t, input, room),
-        Entry::PerDecode => per::decode(t, input, room),
-        Entry::DerEncode => der::encode(t, input, room),
-        Entry::DerDecode => der::decode(t, input, room),
+        Entry::PerEncode => per::encode(t, &*input, room),
+        Entry::PerDecode => per::decode(t, &*input, room),
+        Entry::DerEncode => der::encode(t, &*input, room),
+        Entry::DerDecode => der::decode(t, &*input, room),
     }
 }
 
@@ -55,10 +55,10 @@ fn answer_duration(entry: Entry, listed: bool, input: &[u8], room: &mut [u8]) ->
 {
     let name = duration_name(listed);
     match entry {
-        Entry::PerEncode => per::encode_duration(input, room),
-        Entry::PerDecode => per::decode_duration(input, room),
-        Entry::DerEncode => der::encode_duration(name, input, room),
-        Entry::DerDecode => der::decode_duration(name, input, room),
+        Entry::PerEncode => per::encode_duration(&*input, room),
+        Entry::PerDecode => per::decode_duration(&*input, room),
+        Entry::DerEncode => der::encode_duration(name, &*input, room),
+        Entry::DerDecode => der::decode_duration(name, &*input, room),
     }
 }
 
@@ -74,10 +74,10 @@ pub fn answer(
     ensures { λ r. ⌜ r ≡ outcomeOf (answerOf entry (now (settings .entry)) limits (now (input .entry))) (now (room .entry)) ⌝ }
     ensures { λ _. ⌜ now (room .exit) ≡ roomOf (answerOf entry (now (settings .entry)) limits (now (input .entry))) (now (room .entry)) ⌝ }
 {
-    let read = read_type(settings, limits);
+    let read = read_type(&*settings, limits);
     match read {
-        TypeFound::Point(t) => answer_point(entry, t, input, room),
-        TypeFound::Duration(listed) => answer_duration(entry, listed, input, room),
+        TypeFound::Point(t) => answer_point(entry, t, &*input, room),
+        TypeFound::Duration(listed) => answer_duration(entry, listed, &*input, room),
         TypeFound::NoType(rowless) => Outcome::refused(no_type(rowless)),
     }
 }
@@ -87,7 +87,7 @@ pub fn per_encode(settings: &[u8], limits: Limits, text: &[u8], room: &mut [u8])
     ensures { λ r. ⌜ r ≡ outcomeOf (perEncode (now (settings .entry)) limits (now (text .entry))) (now (room .entry)) ⌝ }
     ensures { λ _. ⌜ now (room .exit) ≡ roomOf (perEncode (now (settings .entry)) limits (now (text .entry))) (now (room .entry)) ⌝ }
 {
-    answer(Entry::PerEncode, settings, limits, text, room)
+    answer(Entry::PerEncode, &*settings, limits, &*text, room)
 }
 
 // Puts the canonical text of octets in unaligned PER at the front of the room, or refuses.
@@ -95,7 +95,7 @@ pub fn per_decode(settings: &[u8], limits: Limits, octets: &[u8], room: &mut [u8
     ensures { λ r. ⌜ r ≡ outcomeOf (perDecode (now (settings .entry)) limits (now (octets .entry))) (now (room .entry)) ⌝ }
     ensures { λ _. ⌜ now (room .exit) ≡ roomOf (perDecode (now (settings .entry)) limits (now (octets .entry))) (now (room .entry)) ⌝ }
 {
-    answer(Entry::PerDecode, settings, limits, octets, room)
+    answer(Entry::PerDecode, &*settings, limits, &*octets, room)
 }
 
 // Puts the octets of a text in DER at the front of the room, or refuses.
@@ -103,7 +103,7 @@ pub fn der_encode(settings: &[u8], limits: Limits, text: &[u8], room: &mut [u8])
     ensures { λ r. ⌜ r ≡ outcomeOf (derEncode (now (settings .entry)) limits (now (text .entry))) (now (room .entry)) ⌝ }
     ensures { λ _. ⌜ now (room .exit) ≡ roomOf (derEncode (now (settings .entry)) limits (now (text .entry))) (now (room .entry)) ⌝ }
 {
-    answer(Entry::DerEncode, settings, limits, text, room)
+    answer(Entry::DerEncode, &*settings, limits, &*text, room)
 }
 
 // Puts the canonical text of octets in DER at the front of the room, or refuses.
@@ -111,5 +111,5 @@ pub fn der_decode(settings: &[u8], limits: Limits, octets: &[u8], room: &mut [u8
     ensures { λ r. ⌜ r ≡ outcomeOf (derDecode (now (settings .entry)) limits (now (octets .entry))) (now (room .entry)) ⌝ }
     ensures { λ _. ⌜ now (room .exit) ≡ roomOf (derDecode (now (settings .entry)) limits (now (octets .entry))) (now (room .entry)) ⌝ }
 {
-    answer(Entry::DerDecode, settings, limits, octets, room)
+    answer(Entry::DerDecode, &*settings, limits, &*octets, room)
 }

@@ -39,7 +39,7 @@ fn make_place(output: &[u8], used: usize) -> usize
     ensures { λ r. ⌜ r + replyCapacity ≤ length (now (output .entry)) ⌝ }
 {
     if output.len() - used < REPLY_CAPACITY {
-        write_out(output, used);
+        write_out(&*output, used);
         return 0;
     }
     used
@@ -51,7 +51,7 @@ fn put_reply(line: &[u8], output: &mut [u8], used: usize) -> usize
     ensures { λ r. ⌜ r ≤ length (now (output .entry)) ⌝ }
 {
     let place = make_place(output, used);
-    place + reply(line, &mut output[place..])
+    place + reply(&*line, &mut output[place..])
 }
 
 // Replies to all lines that end in the text, from a place on.
@@ -62,7 +62,7 @@ fn reply_all(text: &[u8], start: usize, output: &mut [u8], used: usize) -> Progr
     let mut from = start;
     let mut place = used;
     while from < text.len() {
-        let end = find(text, from, b'\n');
+        let end = find(&*text, from, b'\n');
         if text.len() <= end {
             return Progress {
                 start: from,

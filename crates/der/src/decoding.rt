@@ -31,7 +31,7 @@ fn compare(t: Type, octets: &[u8], value: Value, room: &mut [u8]) -> Outcome
     let mut own = [0u8; TEXT_CAPACITY];
     let written = write_element(name, &text[..length], &mut own);
     let end = written.length.count;
-    if !same(octets, &own[..end]) {
+    if !same(&*octets, &own[..end]) {
         return Outcome::refused(Refusal::Encoding);
     }
     deliver(&text[..length], Bits { count: 0 }, room)
@@ -46,12 +46,12 @@ pub fn decode(t: Type, octets: &[u8], room: &mut [u8]) -> Outcome
         return Outcome::refused(Refusal::Settings);
     }
     let name = t.name();
-    let TextRead::Value(value, _) = read_element(name, t.form(), octets) else {
+    let TextRead::Value(value, _) = read_element(name, t.form(), &*octets) else {
         return Outcome::refused(Refusal::Form);
     };
     let judgement = judge(t, value);
     match judgement {
-        Judgement::Held => compare(t, octets, value, room),
+        Judgement::Held => compare(t, &*octets, value, room),
         Judgement::Refused(why) => Outcome::refused(why),
     }
 }

@@ -47,7 +47,7 @@ pub fn encode_duration(name: Name, text: &[u8], room: &mut [u8]) -> Outcome
     ensures { λ r. ⌜ r ≡ outcomeOf (encodedDuration name (durationRead (now (text .entry)))) (now (room .entry)) ⌝ }
     ensures { λ _. ⌜ now (room .exit) ≡ roomOf (encodedDuration name (durationRead (now (text .entry)))) (now (room .entry)) ⌝ }
 {
-    let DurationRead::Duration(duration) = read_duration(text) else {
+    let DurationRead::Duration(duration) = read_duration(&*text) else {
         return Outcome::refused(Refusal::Form);
     };
     write_duration(name, duration, room)
@@ -60,7 +60,7 @@ fn read_after_p(contents: &[u8]) -> DurationRead
 {
     let mut text = [0u8; 128];
     text[0] = b'P';
-    let end = put_octets(&mut text, 1, contents);
+    let end = put_octets(&mut text, 1, &*contents);
     read_duration(&text[..end])
 }
 
@@ -70,11 +70,11 @@ fn read_contents(name: Name, contents: &[u8]) -> DurationRead
     ensures { λ r. ⌜ r ≡ durationIn (readDurationContents name (now (contents .entry))) ⌝ }
 {
     match name {
-        Name::Listed => read_duration(contents),
+        Name::Listed => read_duration(&*contents),
         Name::Date => DurationRead::Nothing,
         Name::TimeOfDay => DurationRead::Nothing,
         Name::DateTime => DurationRead::Nothing,
-        Name::Duration => read_after_p(contents),
+        Name::Duration => read_after_p(&*contents),
     }
 }
 
@@ -82,7 +82,7 @@ fn read_contents(name: Name, contents: &[u8]) -> DurationRead
 fn read_length(name: Name, octets: &[u8]) -> DurationRead
     ensures { λ r. ⌜ r ≡ durationIn (withinLength (readDurationContents name) (now (octets .entry))) ⌝ }
 {
-    let end = contents_end(octets);
+    let end = contents_end(&*octets);
     if end == 0 {
         return DurationRead::Nothing;
     }
@@ -93,7 +93,7 @@ fn read_length(name: Name, octets: &[u8]) -> DurationRead
 fn read_element(name: Name, octets: &[u8]) -> DurationRead
     ensures { λ r. ⌜ r ≡ durationIn (readDurationElement name (now (octets .entry))) ⌝ }
 {
-    if !has_tag(name, octets) {
+    if !has_tag(name, &*octets) {
         return DurationRead::Nothing;
     }
     let at = tag_length(name);
@@ -114,7 +114,7 @@ fn compare_duration(name: Name, octets: &[u8], duration: Duration, room: &mut [u
     let mut own = [0u8; TEXT_CAPACITY];
     let written = write_element(name, &text[..length], &mut own);
     let end = written.length.count;
-    if !same(octets, &own[..end]) {
+    if !same(&*octets, &own[..end]) {
         return Outcome::refused(Refusal::Encoding);
     }
     deliver(&text[..length], Bits { count: 0 }, room)
@@ -126,8 +126,8 @@ pub fn decode_duration(name: Name, octets: &[u8], room: &mut [u8]) -> Outcome
     ensures { λ _. ⌜ now (room .exit)
         ≡ roomOf (decodedDuration name (now (octets .entry)) (readDurationElement name (now (octets .entry)))) (now (room .entry)) ⌝ }
 {
-    let DurationRead::Duration(duration) = read_element(name, octets) else {
+    let DurationRead::Duration(duration) = read_element(name, &*octets) else {
         return Outcome::refused(Refusal::Form);
     };
-    compare_duration(name, octets, duration, room)
+    compare_duration(name, &*octets, duration, room)
 }

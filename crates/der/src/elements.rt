@@ -123,7 +123,7 @@ fn put_element(room: &mut [u8], name: Name, count: u8, text: &[u8]) -> usize
 {
     let at = put_tag(room, name);
     room[at] = count;
-    put_contents(room, at + 1, name, text)
+    put_contents(room, at + 1, name, &*text)
 }
 
 // Puts the element of a canonical text at the front of the room, or refuses where the room is shorter.
@@ -132,12 +132,12 @@ pub(crate) fn write_element(name: Name, text: &[u8], room: &mut [u8]) -> Outcome
     ensures { λ r. ⌜ r ≡ outcomeOf (done (element name (contentsOf name (now (text .entry)))) noBits) (now (room .entry)) ⌝ }
     ensures { λ _. ⌜ now (room .exit) ≡ roomOf (done (element name (contentsOf name (now (text .entry)))) noBits) (now (room .entry)) ⌝ }
 {
-    let count = count_contents(name, text);
+    let count = count_contents(name, &*text);
     let length = tag_length(name) + 1 + count;
     if room.len() < length {
         return Outcome::refused(Refusal::Room);
     }
-    put_element(room, name, count as u8, text);
+    put_element(room, name, count as u8, &*text);
     Outcome {
         number: 0,
         bits: Bits { count: 0 },
@@ -162,7 +162,7 @@ pub fn encode(t: Type, text: &[u8], room: &mut [u8]) -> Outcome
     ensures { λ _. ⌜ now (room .exit) ≡ roomOf (derEncoded t (now (text .entry))) (now (room .entry)) ⌝ }
 {
     let name = t.name();
-    let admission = admit(t, text);
+    let admission = admit(t, &*text);
     match admission {
         Admission::Value(value) => write_value(name, value, room),
         Admission::Refused(why) => Outcome::refused(why),

@@ -43,7 +43,7 @@ fn digits_only(count: usize, octets: &[u8]) -> bool
     if octets.len() != count {
         return false;
     }
-    all_digits(octets)
+    all_digits(&*octets)
 }
 
 // Puts three fields from a place on, with a separator between them, from their digits: so many for the first, two for the
@@ -65,11 +65,11 @@ fn read_fields(form: Form, separator: u8, width: usize, contents: &[u8]) -> Text
     ensures { λ r. ⌜ ofText r ≡ cond (digitsOnly (width + 4) (now (contents .entry)))
         (ofText (readOf form (separated separator width (now (contents .entry))))) none ⌝ }
 {
-    if !digits_only(width + 4, contents) {
+    if !digits_only(width + 4, &*contents) {
         return TextRead::NotOfForm;
     }
     let mut text = [0u8; 10];
-    let end = put_fields(&mut text, 0, separator, width, contents);
+    let end = put_fields(&mut text, 0, separator, width, &*contents);
     read_text(form, &text[..end])
 }
 
@@ -77,7 +77,7 @@ fn read_fields(form: Form, separator: u8, width: usize, contents: &[u8]) -> Text
 fn read_date_time(form: Form, contents: &[u8]) -> TextRead
     ensures { λ r. ⌜ ofText r ≡ readContents Name.DateTime form (now (contents .entry)) ⌝ }
 {
-    if !digits_only(14, contents) {
+    if !digits_only(14, &*contents) {
         return TextRead::NotOfForm;
     }
     let mut text = [0u8; 19];
@@ -92,10 +92,10 @@ fn read_contents(name: Name, form: Form, contents: &[u8]) -> TextRead
     ensures { λ r. ⌜ ofText r ≡ readContents name form (now (contents .entry)) ⌝ }
 {
     match name {
-        Name::Listed => read_text(form, contents),
-        Name::Date => read_fields(form, b'-', 4, contents),
-        Name::TimeOfDay => read_fields(form, b':', 2, contents),
-        Name::DateTime => read_date_time(form, contents),
+        Name::Listed => read_text(form, &*contents),
+        Name::Date => read_fields(form, b'-', 4, &*contents),
+        Name::TimeOfDay => read_fields(form, b':', 2, &*contents),
+        Name::DateTime => read_date_time(form, &*contents),
         Name::Duration => TextRead::NotOfForm,
     }
 }
@@ -123,7 +123,7 @@ pub(crate) fn contents_end(octets: &[u8]) -> usize
 fn read_length(name: Name, form: Form, octets: &[u8]) -> TextRead
     ensures { λ r. ⌜ ofText r ≡ readLength name form (now (octets .entry)) ⌝ }
 {
-    let end = contents_end(octets);
+    let end = contents_end(&*octets);
     if end == 0 {
         return TextRead::NotOfForm;
     }
@@ -153,7 +153,7 @@ pub(crate) fn has_tag(name: Name, octets: &[u8]) -> bool
 pub(crate) fn read_element(name: Name, form: Form, octets: &[u8]) -> TextRead
     ensures { λ r. ⌜ ofText r ≡ readElement name form (now (octets .entry)) ⌝ }
 {
-    if !has_tag(name, octets) {
+    if !has_tag(name, &*octets) {
         return TextRead::NotOfForm;
     }
     let at = tag_length(name);

@@ -12,8 +12,8 @@ use Rattle.types.specs.declared.types.Name.{Name}
 use Rattle.durations.specs.Texts.{durationText}
 use Rattle.durations.specs.declared.Duration.{Duration}
 use Rattle.kinds.specs.Coding.{decoded, encoded}
-use Rattle.kinds.specs.Kinds.{Kind}
-use Rattle.any_values.specs.Encodings.{AnyEncoding, encodedBy}
+use Rattle.kinds.specs.Kinds.{Encoding, Kind}
+use Rattle.any_values.specs.Encodings.{encodedBy}
 use Rattle.any_values.specs.Texts.{asDuration, asPoint, textOf}
 use Rattle.any_values.specs.declared.AnyForm.{AnyForm}
 use Rattle.any_values.specs.declared.AnyValue.{AnyValue}
@@ -32,7 +32,7 @@ readElement name (AnyForm.Point f) octets = asPoint (Readings.readElement name f
 readElement name AnyForm.Duration octets = asDuration (readDurationElement name octets)
 
 -- DER goes by a type's name; "the bit count: .. in DER 0".
-abbrev pub inDer : AnyEncoding Name
+abbrev pub inDer : Encoding AnyType AnyForm Name AnyValue
 inDer = record { row = nameOf; encoding = elementOf; count = λ name v. noBits; readOctets = readElement }
 
 -- Points and durations in DER.

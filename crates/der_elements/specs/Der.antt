@@ -8,9 +8,9 @@ use Rattle.texts.specs.declared.values.Value.{Value}
 use Rattle.types.specs.Types.{nameOf}
 use Rattle.types.specs.declared.types.Name.{Name}
 use Rattle.types.specs.declared.types.«Type».{«Type» as Ty}
-use Rattle.kinds.specs.Kinds.{Kind}
+use Rattle.kinds.specs.Kinds.{Encoding, Kind}
 use Rattle.kinds.specs.Coding.{encoded, decoded}
-use Rattle.held_values.specs.Encodings.{Encoding, encodedBy}
+use Rattle.held_values.specs.Encodings.{encodedBy}
 use Rattle.der_elements.specs.Elements.{elementOf}
 use Rattle.der_elements.specs.Readings.{readElement}
 
@@ -19,7 +19,7 @@ abbrev pub noBits : Bits
 noBits = record { count = 0 }
 
 -- DER goes by a type's name.
-abbrev pub inDer : Encoding Name
+abbrev pub inDer : Encoding Ty Form Name Value
 inDer = record { row = nameOf; encoding = elementOf; count = λ name v. noBits; readOctets = readElement }
 
 -- Dates and times are a kind of value in it.

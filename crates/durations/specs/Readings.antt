@@ -4,10 +4,9 @@ use mathlib.Core.Bool.{false, _&&_, cond}
 use mathlib.Core.List.{List, [], _∷_}
 use mathlib.Core.Option.{Option}
 use lib.Dec.{leb, ltb}
-use lib.IntN.{ℤ, pos, negsuc}
 use Rattle.octets.specs.Found.{ofFound}
 use Rattle.fields.specs.Bits.{unpacked}
-use Rattle.fields.specs.Readings.{Reading, give, refuse, _>>=_, aRanged, aFree, require, run}
+use Rattle.fields.specs.Readings.{Reading, give, _>>=_, aRanged, aNatural, require, run}
 use Rattle.durations.specs.declared.Duration.{Duration}
 use Rattle.texts.specs.Times.{fraction}
 use Rattle.durations.specs.Parts.{Part, absent, present, noFraction, anyPresent, wellMade}
@@ -15,13 +14,9 @@ use Rattle.durations.specs.Durations.{durationOf}
 use Rattle.durations.specs.Fields.{roots}
 
 -- "a number that is negative" is nothing.
-unfoldable pub natural : ℤ → Reading ℕ
-natural (pos n) = give n
-natural (negsuc n) = refuse
-
 unfoldable pub readAfter : ℕ → ℕ → ℕ → Reading ℕ
 readAfter lowest r zero = aRanged r >>= λ v. give (lowest + v)
-readAfter lowest r (suc x) = aFree >>= natural
+readAfter lowest r (suc x) = aNatural
 
 -- A number of an extensible range.
 unfoldable pub readExtended : ℕ → ℕ → Reading ℕ

@@ -12,11 +12,13 @@ use Rattle.octets.specs.Found.{Found, found, nothing}
 use Rattle.octets.proofs.Laws.Cases.{both}
 use Rattle.answers.specs.Outcomes.{Answer, outcomeOf, refused}
 use Rattle.answers.specs.declared.refusals.Refusal.{Refusal}
+use Rattle.texts.specs.declared.forms.Form.{Form}
 use Rattle.texts.specs.declared.values.Value.{Value}
 use Rattle.types.specs.AnyTypes.{nameOf, wellFormed}
 use Rattle.types.specs.Types as Points
 use Rattle.types.specs.Types.{typeNumber}
 use Rattle.types.specs.declared.types.AnyType.{AnyType}
+use Rattle.types.specs.declared.types.«Type».{«Type» as Ty}
 use Rattle.types.specs.declared.types.Limits.{Limits}
 use Rattle.types.specs.declared.types.TypeRead.{TypeRead}
 use Rattle.types.proofs.Laws.Durations.{OfDurations, as-listed, named}
@@ -29,17 +31,16 @@ use Rattle.rows.specs.Fields.{yearRowOf}
 use Rattle.rows.specs.Readings.{readOctets}
 use Rattle.rows.proofs.Laws.SameRows.{same-rows}
 use Rattle.unpacking.specs.Unpacked.{valueIn, valueNumber}
-use Rattle.kinds.specs.Kinds.{holds}
+use Rattle.kinds.specs.Kinds.{Encoding, holds}
 use Rattle.kinds.specs.Lawful.{Holds}
 use Rattle.kinds.proofs.Laws.Coding as Coding
-use Rattle.held_values.specs.Encodings.{Encoding}
 use Rattle.held_values.proofs.Laws.Encodings.{admissionAnswer, answerWith, encoded-admitted, judged-as}
 use Rattle.durations.specs.Answers.{durationIn, durationNumber}
 use Rattle.durations.specs.Readings.{durationInOctets}
 use Rattle.durations.specs.Texts.{readDuration}
 use Rattle.durations.specs.declared.Duration.{Duration}
 use Rattle.durations.proofs.Laws.Values.{canonical-again}
-use Rattle.any_values.specs.Encodings.{AnyEncoding, encodedBy}
+use Rattle.any_values.specs.Encodings.{encodedBy}
 use Rattle.any_values.specs.Texts.{asPoint, formOf, readText, render, textOf}
 use Rattle.any_values.specs.declared.AnyForm.{AnyForm}
 use Rattle.any_values.specs.declared.AnyValue.{AnyValue}
@@ -108,7 +109,8 @@ demand-2-der settings limits t e =
 -- ---- demand 3
 
 -- a type that is read, and a value that it holds
-held : {R : Type 0} (E : AnyEncoding R) (t : AnyType) (v : AnyValue) → wellFormed t ≡ true → holds (encodedBy E) t v ≡ true → Holds (encodedBy E) t v
+held : {R : Type 0} (E : Encoding AnyType AnyForm R AnyValue) (t : AnyType) (v : AnyValue) → wellFormed t ≡ true → holds (encodedBy E) t v ≡ true →
+    Holds (encodedBy E) t v
 held E t v f h = let b = both _ _ h in record { formed = f; real = b .0; inside = b .1 }
 
 pub demand-3-per : Demand3InPer
@@ -172,7 +174,7 @@ unfolding answerOf
 points-as-before settings limits t q input =
     (rw q (InPer.point-encodes t input), rw q (InPer.point-decodes t input), rw q (InDer.point-encodes t input), rw q (InDer.point-decodes t input))
 
-admission-told : {R : Type 0} (E : Encoding R) (row : R) (a : Admission) (room : List ℕ) → admissionNumber a ≢ 0
+admission-told : {R : Type 0} (E : Encoding Ty Form R Value) (row : R) (a : Admission) (room : List ℕ) → admissionNumber a ≢ 0
     → outcomeOf (admissionAnswer E row a) room .number ≡ admissionNumber a
 unfolding outcomeOf
 admission-told E row (Admission.Value v) room n = absurd (n refl)

@@ -3,7 +3,7 @@ use Prim.Native.Nat.{ℕ, _*_}
 use mathlib.Core.Bool.{Bool, true, false, cond}
 use mathlib.Core.List.{List, [], _∷_}
 use lib.Dec.{leb, ltb, eqb}
-use lib.IntN.{ℤ}
+use lib.IntN.{ℤ, pos, negsuc}
 use lib.ListN.{length, drop}
 use Rattle.octets.specs.Found.{Found, found, nothing, onward}
 use Rattle.fields.specs.Bits.{BitString, numberIn}
@@ -33,6 +33,15 @@ aRanged r = ranged r give
 -- A reading of one free integer.
 unfoldable pub aFree : Reading ℤ
 aFree = free give
+
+-- A number that is not negative; nothing for a negative one.
+unfoldable pub natural : ℤ → Reading ℕ
+natural (pos n) = give n
+natural (negsuc n) = refuse
+
+-- A reading of one free integer that is not negative.
+abbrev pub aNatural : Reading ℕ
+aNatural = aFree >>= natural
 
 -- Nothing where the test fails.
 unfoldable pub require : {A : Type 0} → Bool → Reading A → Reading A

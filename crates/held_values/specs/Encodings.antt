@@ -1,7 +1,4 @@
 -- Dates and times as a kind of value, whatever their encoding.
-use Prim.Native.Nat.{ℕ}
-use mathlib.Core.List.{List}
-use Rattle.answers.specs.declared.counts.Bits.{Bits}
 use Rattle.texts.specs.Texts.{readOf, textOf}
 use Rattle.texts.specs.declared.forms.Form.{Form}
 use Rattle.texts.specs.declared.texts.TextRead.{TextRead}
@@ -11,22 +8,15 @@ use Rattle.types.specs.declared.types.«Type».{«Type» as Ty}
 use Rattle.held_values.specs.Existence.{existsValue}
 use Rattle.held_values.specs.Holding.{inType}
 use mathlib.Core.Option.{Option, some, none}
-use Rattle.kinds.specs.Kinds.{Kind}
+use Rattle.kinds.specs.Kinds.{Encoding, Kind}
 
 -- What a text gives, however it is spelled.
 abbrev pub ofText : TextRead → Option Value
 ofText (TextRead.Value v s) = some v
 ofText TextRead.NotOfForm = none
 
--- An encoding of dates and times: what of a type it goes by, the octets of a value with their bit count, and what octets give at a form.
-pub record Encoding (R : Type 0) : Type 0 where
-  pub row : Ty → R
-  pub encoding : R → Value → List ℕ
-  pub count : R → Value → Bits
-  pub readOctets : R → Form → List ℕ → Option Value
-
 -- Dates and times in an encoding.
-abbrev pub encodedBy : {R : Type 0} → Encoding R → Kind Ty Form R Value
+abbrev pub encodedBy : {R : Type 0} → Encoding Ty Form R Value → Kind Ty Form R Value
 encodedBy E = record {
   wellFormed = wellFormed;
   form = formOf;

@@ -5,6 +5,13 @@ use mathlib.Core.List.{List}
 use mathlib.Core.Option.{Option}
 use Rattle.answers.specs.declared.counts.Bits.{Bits}
 
+-- An encoding of values: what of a type it goes by, the octets of a value with their bit count, and what octets give at a form.
+pub record Encoding (T F R A : Type 0) : Type 0 where
+  pub row : T → R
+  pub encoding : R → A → List ℕ
+  pub count : R → A → Bits
+  pub readOctets : R → F → List ℕ → Option A
+
 -- Types T have forms F and rows R; a type's values are among A, its texts are of its form, and they are encoded by its row.
 pub record Kind (T F R A : Type 0) : Type 0 where
   -- a type that settings or a name can give

@@ -59,9 +59,9 @@ fn put_result(room: &mut [u8], at: usize, hex: bool, result: &[u8]) -> usize
     ensures { λ r. ⌜ r ≤ at + 2 * length (now (result .entry)) ⌝ }
 {
     if hex {
-        return put_hex(room, at, result);
+        return put_hex(room, at, &*result);
     }
-    put_octets(room, at, result)
+    put_octets(room, at, &*result)
 }
 
 // The reply to a result: 0, and the result in hex or as a text.
@@ -71,7 +71,7 @@ fn result_reply(hex: bool, result: &[u8], room: &mut [u8]) -> usize
     ensures { λ r. ⌜ r ≤ replyCapacity ⌝ }
 {
     let start = put_octets(room, 0, b"0 ");
-    let end = put_result(room, start, hex, result);
+    let end = put_result(room, start, hex, &*result);
     put_octets(room, end, b"\n")
 }
 
@@ -106,7 +106,7 @@ fn answer_reply(entry: Entry, settings: &[u8], input: &[u8], room: &mut [u8]) ->
     ensures { λ r. ⌜ r ≤ replyCapacity ⌝ }
 {
     let mut buffer = [0u8; TEXT_CAPACITY];
-    let outcome = answer(entry, settings, Limits::NONE, input, &mut buffer);
+    let outcome = answer(entry, &*settings, Limits::NONE, &*input, &mut buffer);
     outcome_reply(
         gives_octets(entry),
         outcome.number,
@@ -123,13 +123,13 @@ fn entry_reply(entry: Entry, settings: &[u8], input: &[u8], room: &mut [u8]) -> 
     ensures { λ r. ⌜ r ≤ replyCapacity ⌝ }
 {
     if gives_octets(entry) {
-        return answer_reply(entry, settings, input, room);
+        return answer_reply(entry, &*settings, &*input, room);
     }
     let mut buffer = [0u8; HEX_CAPACITY];
-    let Hex::Length(n) = read_hex(input, &mut buffer) else {
+    let Hex::Length(n) = read_hex(&*input, &mut buffer) else {
         return unasked_reply(room);
     };
-    answer_reply(entry, settings, &buffer[..n], room)
+    answer_reply(entry, &*settings, &buffer[..n], room)
 }
 
 // What a work names: an entry point, or nothing that is known.
@@ -142,16 +142,16 @@ enum Work {
 fn named(work: &[u8]) -> Work
     ensures { λ r. ⌜ entryIn r ≡ entryNamed (now (work .entry)) ⌝ }
 {
-    if same(work, b"per") {
+    if same(&*work, b"per") {
         return Work::Entry(Entry::PerEncode);
     }
-    if same(work, b"der") {
+    if same(&*work, b"der") {
         return Work::Entry(Entry::DerEncode);
     }
-    if same(work, b"unper") {
+    if same(&*work, b"unper") {
         return Work::Entry(Entry::PerDecode);
     }
-    if same(work, b"under") {
+    if same(&*work, b"under") {
         return Work::Entry(Entry::DerDecode);
     }
     Work::Unknown
@@ -163,10 +163,10 @@ fn work_reply(work: &[u8], settings: &[u8], input: &[u8], room: &mut [u8]) -> us
     ensures { λ r. ⌜ StoredText (now (room .entry)) (now (room .exit)) 0 (worked (now (work .entry)) (now (settings .entry)) (now (input .entry))) r ⌝ }
     ensures { λ r. ⌜ r ≤ replyCapacity ⌝ }
 {
-    let Work::Entry(entry) = named(work) else {
+    let Work::Entry(entry) = named(&*work) else {
         return unasked_reply(room);
     };
-    entry_reply(entry, settings, input, room)
+    entry_reply(entry, &*settings, &*input, room)
 }
 
 // The reply to a work and what follows the first semicolon.
@@ -175,11 +175,11 @@ fn rest_reply(work: &[u8], rest: &[u8], room: &mut [u8]) -> usize
     ensures { λ r. ⌜ StoredText (now (room .entry)) (now (room .exit)) 0 (cutAgain (now (work .entry)) (now (rest .entry))) r ⌝ }
     ensures { λ r. ⌜ r ≤ replyCapacity ⌝ }
 {
-    let second = find(rest, 0, b';');
+    let second = find(&*rest, 0, b';');
     if rest.len() <= second {
         return unasked_reply(room);
     }
-    work_reply(work, &rest[..second], &rest[second + 1..], room)
+    work_reply(&*work, &rest[..second], &rest[second + 1..], room)
 }
 
 // Puts the reply to a line, which is given without its newline, at the front of a room of at least REPLY_CAPACITY
@@ -195,7 +195,7 @@ pub fn reply(line: &[u8], room: &mut [u8]) -> usize
     if LONGEST < line.len() {
         return unasked_reply(room);
     }
-    let first = find(line, 0, b';');
+    let first = find(&*line, 0, b';');
     if line.len() <= first {
         return unasked_reply(room);
     }

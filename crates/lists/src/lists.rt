@@ -1,7 +1,7 @@
 ghost use mathlib.Core.Path.{_≡_};
 ghost use Prim.Native.Nat.{_<_};
 ghost use Rattle.octets.specs.Pieces.{splitOn};
-ghost use Rattle.lists.specs.Lists.{addPair, addPairs, complete, completed, datedList, intervalList, listOf, noneYet, presentIf, settings, timedList};
+ghost use Rattle.lists.specs.Lists.{addPair, addPairs, complete, datedList, intervalList, listOf, noneYet, presentIf, settings, timedList};
 use crate::words::BASIC;
 use crate::words::DATE;
 use crate::words::INTERVAL;
@@ -62,7 +62,7 @@ fn read_pairs(s: &[u8]) -> Settings
     let mut list = NONE_YET;
     let mut from = 0;
     while from <= s.len() {
-        let end = find(s, from, b' ');
+        let end = find(&*s, from, b' ');
         let pair = read_pair(&s[from..end]);
         list = add(list, pair);
         if s.len() <= end {
@@ -138,7 +138,7 @@ fn is_complete(list: Settings) -> bool
 pub fn read_list(s: &[u8]) -> Settings
     ensures { λ r. ⌜ r ≡ listOf (now (s .entry)) ⌝ }
 {
-    let list = read_pairs(s);
+    let list = read_pairs(&*s);
     if is_complete(list) {
         return list;
     }

@@ -49,7 +49,7 @@ fn place_in(table: &[u8], words: u32, s: &[u8]) -> u32
         let word = at + 1;
         let end = word + table[at] as usize;
         place += 1;
-        if same(s, &table[word..end]) {
+        if same(&*s, &table[word..end]) {
             return place;
         }
         at = end;
@@ -84,11 +84,11 @@ fn fraction(s: &[u8]) -> u32
 fn time_word(s: &[u8]) -> u32
     ensures { λ r. ⌜ r ≡ firstNumber (placeIn clockWords (now (s .entry))) (fractionNumber (now (s .entry))) ⌝ }
 {
-    let clock = place_in(&CLOCK_WORDS, 3, s);
+    let clock = place_in(&CLOCK_WORDS, 3, &*s);
     if clock != 0 {
         return clock;
     }
-    fraction(s)
+    fraction(&*s)
 }
 
 // A property with the number of its setting, or the pair of no setting where that is 0.
@@ -116,22 +116,22 @@ pub fn read_pair(s: &[u8]) -> Pair
     }
     let first = s[0];
     if first == b'B' {
-        return pair_or_none(BASIC, place_in(&BASIC_WORDS, 4, s));
+        return pair_or_none(BASIC, place_in(&BASIC_WORDS, 4, &*s));
     }
     if first == b'D' {
-        return pair_or_none(DATE, place_in(&DATE_WORDS, 6, s));
+        return pair_or_none(DATE, place_in(&DATE_WORDS, 6, &*s));
     }
     if first == b'Y' {
-        return pair_or_none(YEAR, place_in(&YEAR_WORDS, 4, s));
+        return pair_or_none(YEAR, place_in(&YEAR_WORDS, 4, &*s));
     }
     if first == b'T' {
-        return pair_or_none(TIME, time_word(s));
+        return pair_or_none(TIME, time_word(&*s));
     }
     if first == b'L' {
-        return pair_or_none(ZONE, place_in(&ZONE_WORDS, 3, s));
+        return pair_or_none(ZONE, place_in(&ZONE_WORDS, 3, &*s));
     }
     Pair {
         property: INTERVAL,
-        setting: place_in(&INTERVAL_WORDS, 1, s),
+        setting: place_in(&INTERVAL_WORDS, 1, &*s),
     }
 }

@@ -23,11 +23,37 @@ pub fn same(a: &[u8], b: &[u8]) -> bool
     true
 }
 
+// A place with no such octet between: from a place on, four octets at a time are passed over where none of them is it.
+fn skip_fours(s: &[u8], from: usize, octet: u8) -> usize
+    ensures { λ r. ⌜ from + spanTo octet (drop from (now (s .entry))) ≡ r + spanTo octet (drop r (now (s .entry))) ⌝ }
+{
+    let mut at = from;
+    while at < s.len() {
+        if s.len() - at < 4 {
+            return at;
+        }
+        if s[at] == octet {
+            return at;
+        }
+        if s[at + 1] == octet {
+            return at;
+        }
+        if s[at + 2] == octet {
+            return at;
+        }
+        if s[at + 3] == octet {
+            return at;
+        }
+        at += 4;
+    }
+    at
+}
+
 // The place of the first such octet from a place on, or the end.
 pub fn find(s: &[u8], from: usize, octet: u8) -> usize
     ensures { λ r. ⌜ r ≡ from + spanTo octet (drop from (now (s .entry))) ⌝ }
 {
-    let mut i = from;
+    let mut i = skip_fours(&*s, from, octet);
     while i < s.len() {
         if s[i] == octet {
             return i;

@@ -15,8 +15,8 @@ use Rattle.rows.specs.Fields.{yearRowOfType}
 use Rattle.rows.specs.Readings as RowReadings
 use Rattle.rows.specs.declared.YearRow.{YearRow}
 use Rattle.kinds.specs.Coding.{decoded, encoded}
-use Rattle.kinds.specs.Kinds.{Kind}
-use Rattle.any_values.specs.Encodings.{AnyEncoding, encodedBy}
+use Rattle.kinds.specs.Kinds.{Encoding, Kind}
+use Rattle.any_values.specs.Encodings.{encodedBy}
 use Rattle.any_values.specs.Texts.{asDuration, asPoint}
 use Rattle.any_values.specs.declared.AnyForm.{AnyForm}
 use Rattle.any_values.specs.declared.AnyValue.{AnyValue}
@@ -39,7 +39,7 @@ unfoldable pub countOf : YearRow → AnyValue → Bits
 countOf row v = record { count = bitCount (fieldsOf row v) }
 
 -- Unaligned PER goes by the row of a type's years.
-abbrev pub inPer : AnyEncoding YearRow
+abbrev pub inPer : Encoding AnyType AnyForm YearRow AnyValue
 inPer = record { row = yearRowOfType; encoding = encodingOf; count = countOf; readOctets = readOctets }
 
 -- Points and durations in unaligned PER.

@@ -12,9 +12,9 @@ use Rattle.fields.specs.Fields.{layout, bitCount}
 use Rattle.rows.specs.Fields.{yearRowOf, fieldsOf}
 use Rattle.rows.specs.Readings.{readOctets}
 use Rattle.rows.specs.declared.YearRow.{YearRow}
-use Rattle.kinds.specs.Kinds.{Kind}
+use Rattle.kinds.specs.Kinds.{Encoding, Kind}
 use Rattle.kinds.specs.Coding.{encoded, decoded}
-use Rattle.held_values.specs.Encodings.{Encoding, encodedBy}
+use Rattle.held_values.specs.Encodings.{encodedBy}
 
 -- "Bits": the octets of the layout of a value's fields, and the plain sum of their widths.
 unfoldable pub encodingOf : YearRow → Value → List ℕ
@@ -24,7 +24,7 @@ unfoldable pub countOf : YearRow → Value → Bits
 countOf row v = record { count = bitCount (fieldsOf row v) }
 
 -- Unaligned PER goes by the row of a type's years.
-abbrev pub inPer : Encoding YearRow
+abbrev pub inPer : Encoding Ty Form YearRow Value
 inPer = record {
   row = yearRowOf;
   encoding = encodingOf;

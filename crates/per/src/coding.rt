@@ -79,7 +79,7 @@ pub fn encode(t: Type, text: &[u8], room: &mut [u8]) -> Outcome
     ensures { λ r. ⌜ r ≡ outcomeOf (perEncoded t (now (text .entry))) (now (room .entry)) ⌝ }
     ensures { λ _. ⌜ now (room .exit) ≡ roomOf (perEncoded t (now (text .entry))) (now (room .entry)) ⌝ }
 {
-    let admission = admit(t, text);
+    let admission = admit(t, &*text);
     match admission {
         Admission::Value(value) => write_octets(row_of(t), value, room),
         Admission::Refused(why) => Outcome::refused(why),
@@ -97,7 +97,7 @@ fn compare(t: Type, octets: &[u8], value: Value, room: &mut [u8]) -> Outcome
     let bits = packed.bits;
     let length = bits.octets().count;
     let encoding = &own[..length];
-    if !same(octets, encoding) {
+    if !same(&*octets, encoding) {
         return Outcome::refused(Refusal::Encoding);
     }
     deliver_text(value, bits, room)
@@ -111,12 +111,12 @@ pub fn decode(t: Type, octets: &[u8], room: &mut [u8]) -> Outcome
     if !t.well_formed() {
         return Outcome::refused(Refusal::Settings);
     }
-    let ValueRead::Value(value) = unpack(row_of(t), t.form(), octets) else {
+    let ValueRead::Value(value) = unpack(row_of(t), t.form(), &*octets) else {
         return Outcome::refused(Refusal::Form);
     };
     let judgement = judge(t, value);
     match judgement {
-        Judgement::Held => compare(t, octets, value, room),
+        Judgement::Held => compare(t, &*octets, value, room),
         Judgement::Refused(why) => Outcome::refused(why),
     }
 }

@@ -42,7 +42,7 @@ pub fn encode_duration(text: &[u8], room: &mut [u8]) -> Outcome
     ensures { λ r. ⌜ r ≡ outcomeOf (perEncoded AnyType.Duration (now (text .entry))) (now (room .entry)) ⌝ }
     ensures { λ _. ⌜ now (room .exit) ≡ roomOf (perEncoded AnyType.Duration (now (text .entry))) (now (room .entry)) ⌝ }
 {
-    let DurationRead::Duration(duration) = read_duration(text) else {
+    let DurationRead::Duration(duration) = read_duration(&*text) else {
         return Outcome::refused(Refusal::Form);
     };
     write_duration(duration, room)
@@ -69,7 +69,7 @@ fn compare_duration(octets: &[u8], duration: Duration, room: &mut [u8]) -> Outco
     let own = packed.octets;
     let bits = packed.bits;
     let count = bits.octets().count;
-    if !same(octets, &own[..count]) {
+    if !same(&*octets, &own[..count]) {
         return Outcome::refused(Refusal::Encoding);
     }
     deliver_duration(duration, bits, room)
@@ -80,8 +80,8 @@ pub fn decode_duration(octets: &[u8], room: &mut [u8]) -> Outcome
     ensures { λ r. ⌜ r ≡ outcomeOf (perDecoded AnyType.Duration (now (octets .entry))) (now (room .entry)) ⌝ }
     ensures { λ _. ⌜ now (room .exit) ≡ roomOf (perDecoded AnyType.Duration (now (octets .entry))) (now (room .entry)) ⌝ }
 {
-    let DurationRead::Duration(duration) = unpack_duration(octets) else {
+    let DurationRead::Duration(duration) = unpack_duration(&*octets) else {
         return Outcome::refused(Refusal::Form);
     };
-    compare_duration(octets, duration, room)
+    compare_duration(&*octets, duration, room)
 }

@@ -43,14 +43,14 @@ const NONE_READ: Tally = Tally {
 fn number(text: &[u8], at: usize) -> Step
     ensures { λ r. ⌜ seen (now (text .entry)) r ≡ getNumber (drop at (now (text .entry))) ⌝ }
 {
-    let width = leading_digits(text, at);
+    let width = leading_digits(&*text, at);
     if width == 0 {
         return Step::Bad;
     }
     if 9 < width {
         return Step::Bad;
     }
-    let Step::Got(number, place) = digits(text, at, width) else {
+    let Step::Got(number, place) = digits(&*text, at, width) else {
         return Step::Bad;
     };
     if 1 < width {
@@ -66,11 +66,11 @@ fn number(text: &[u8], at: usize) -> Step
 fn fraction_length(text: &[u8], at: usize) -> usize
     ensures { λ r. ⌜ r ≡ fractionLength (drop at (now (text .entry))) ⌝ }
 {
-    if mark(text, at, b',') {
-        return leading_digits(text, at + 1);
+    if mark(&*text, at, b',') {
+        return leading_digits(&*text, at + 1);
     }
-    if mark(text, at, b'.') {
-        return leading_digits(text, at + 1);
+    if mark(&*text, at, b'.') {
+        return leading_digits(&*text, at + 1);
     }
     0
 }
@@ -112,17 +112,17 @@ fn component_of(text: &[u8], at: usize, number: u32, place: usize) -> Component
     ensures { λ r. ⌜ r .at ≡ at ⌝ }
     ensures { λ r. ⌜ ((c : ℕ) → 0 < c → seenPart (now (text .entry)) r c ≡ getBehind c number (drop place (now (text .entry)))) ⌝ }
 {
-    let decimals = fraction_length(text, place);
+    let decimals = fraction_length(&*text, place);
     if 9 < decimals {
         return no_component(at);
     }
-    let FractionStep::Got(fraction, end) = fraction(text, place, decimals) else {
+    let FractionStep::Got(fraction, end) = fraction(&*text, place, decimals) else {
         return no_component(at);
     };
     if text.len() <= end {
         return no_component(at);
     }
-    let designator = designator(text, end, decimals);
+    let designator = designator(&*text, end, decimals);
     Component {
         at,
         number,
@@ -138,10 +138,10 @@ fn component_at(text: &[u8], at: usize) -> Component
     ensures { λ r. ⌜ r .at ≡ at ⌝ }
     ensures { λ r. ⌜ IsComponent (now (text .entry)) r ⌝ }
 {
-    let Step::Got(number, place) = number(text, at) else {
+    let Step::Got(number, place) = number(&*text, at) else {
         return no_component(at);
     };
-    component_of(text, at, number, place)
+    component_of(&*text, at, number, place)
 }
 
 // Whether weeks were read before, or are read now.
@@ -186,7 +186,7 @@ fn advance(text: &[u8], place: usize, progress: Progress) -> Progress
         return progress;
     }
     let tally = add(before, place, found);
-    let component = component_at(text, found.next);
+    let component = component_at(&*text, found.next);
     Progress { tally, component }
 }
 
@@ -199,7 +199,7 @@ fn components(text: &[u8], first: usize, end: usize, before: Progress) -> Progre
     let mut progress = before;
     let mut place = first;
     while place < end {
-        progress = advance(text, place, progress);
+        progress = advance(&*text, place, progress);
         place += 1;
     }
     progress
@@ -249,38 +249,38 @@ fn with_times(text: &[u8], at: usize, before: Tally) -> DurationRead
     requires { ⌜ before .count ≤ 4 ⌝ }
     ensures { λ r. ⌜ r ≡ durationIn (timedTally before (addedBy (designatorsIn 4 7) (drop at (now (text .entry))) before 4)) ⌝ }
 {
-    let component = component_at(text, at);
+    let component = component_at(&*text, at);
     let progress = Progress {
         tally: before,
         component,
     };
-    let read = components(text, 4, 7, progress);
+    let read = components(&*text, 4, 7, progress);
     let tally = read.tally;
     let rest = read.component;
     if tally.count == before.count {
         return DurationRead::Nothing;
     }
-    whole(text, rest.at, tally)
+    whole(&*text, rest.at, tally)
 }
 
 // What a text of any octets gives as a duration.
 pub fn read_duration(text: &[u8]) -> DurationRead
     ensures { λ r. ⌜ r ≡ durationIn (readDuration (now (text .entry))) ⌝ }
 {
-    if !mark(text, 0, b'P') {
+    if !mark(&*text, 0, b'P') {
         return DurationRead::Nothing;
     }
-    let component = component_at(text, 1);
+    let component = component_at(&*text, 1);
     let progress = Progress {
         tally: NONE_READ,
         component,
     };
-    let read = components(text, 0, 4, progress);
+    let read = components(&*text, 0, 4, progress);
     let tally = read.tally;
     let rest = read.component;
     let at = rest.at;
-    if mark(text, at, b'T') {
-        return with_times(text, at + 1, tally);
+    if mark(&*text, at, b'T') {
+        return with_times(&*text, at + 1, tally);
     }
-    whole(text, at, tally)
+    whole(&*text, at, tally)
 }

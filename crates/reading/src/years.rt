@@ -47,11 +47,11 @@ fn signed_year(below: bool, number: u32) -> Year
 fn signed(text: &[u8], at: usize, below: bool) -> YearStep
     ensures { λ r. ⌜ seenYear (now (text .entry)) r ≡ getSigned longestYear below (drop at (now (text .entry))) ⌝ }
 {
-    let width = leading_digits(text, at);
+    let width = leading_digits(&*text, at);
     if LONGEST < width {
         return YearStep::Bad;
     }
-    let Step::Got(number, place) = digits(text, at, width) else {
+    let Step::Got(number, place) = digits(&*text, at, width) else {
         return YearStep::Bad;
     };
     if signed_fits(below, width, number) {
@@ -64,13 +64,13 @@ fn signed(text: &[u8], at: usize, below: bool) -> YearStep
 pub(crate) fn year(text: &[u8], at: usize) -> YearStep
     ensures { λ r. ⌜ seenYear (now (text .entry)) r ≡ getYear longestYear (drop at (now (text .entry))) ⌝ }
 {
-    if mark(text, at, b'-') {
-        return signed(text, at + 1, true);
+    if mark(&*text, at, b'-') {
+        return signed(&*text, at + 1, true);
     }
-    if mark(text, at, b'+') {
-        return signed(text, at + 1, false);
+    if mark(&*text, at, b'+') {
+        return signed(&*text, at + 1, false);
     }
-    let Step::Got(number, place) = digits(text, at, 4) else {
+    let Step::Got(number, place) = digits(&*text, at, 4) else {
         return YearStep::Bad;
     };
     YearStep::Got(Year::since_zero(number), place)

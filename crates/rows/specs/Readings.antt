@@ -3,7 +3,7 @@ use Prim.Native.Nat.{ℕ, zero, suc, _+_, _-_, _^_}
 use mathlib.Core.Bool.{Bool, true, false, cond}
 use mathlib.Core.List.{List}
 use lib.Dec.{ltb}
-use lib.IntN.{ℤ, pos, negsuc}
+use lib.IntN.{ℤ, pos}
 use Rattle.octets.specs.Found.{Found}
 use Rattle.calendar.specs.Years.{yearAt}
 use Rattle.calendar.specs.declared.dates.Date.{Date}
@@ -19,7 +19,7 @@ use Rattle.texts.specs.declared.values.Time.{Time}
 use Rattle.texts.specs.declared.values.Value.{Value}
 use Rattle.texts.specs.declared.values.Zone.{Zone}
 use Rattle.fields.specs.Bits.{unpacked}
-use Rattle.fields.specs.Readings.{Reading, give, refuse, _>>=_, aRanged, aFree, require, run}
+use Rattle.fields.specs.Readings.{Reading, give, _>>=_, aRanged, aFree, aNatural, require, run}
 use Rattle.rows.specs.declared.YearRow.{YearRow}
 
 -- The year after its two choice bits: immediate, near-future, near-past, or remainder, which is "3: other years", of any number.
@@ -74,15 +74,10 @@ readClock ClockForm.HMS = do
   s ← aRanged 61
   give (Clock.HMS h m s)
 
--- "a fraction negative" is nothing.
-unfoldable pub natural : ℤ → Reading ℕ
-natural (pos n) = give n
-natural (negsuc n) = refuse
-
--- The number of a fraction after its 0 bit or its 1 bit.
+-- The number of a fraction after its 0 bit or its 1 bit: "a fraction negative" is nothing.
 unfoldable pub readExtended : ℕ → Reading ℕ
 readExtended zero = aRanged 1000
-readExtended (suc x) = aFree >>= natural
+readExtended (suc x) = aNatural
 
 -- A fraction "of more than n digits" is nothing.
 unfoldable pub readFraction : ℕ → Reading ℕ

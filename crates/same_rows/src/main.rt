@@ -50,7 +50,7 @@ fn limits_of(octet: u8) -> Limits {
 
 // Writes octets out.
 fn write(octets: &[u8]) {
-    io::write_all(STDOUT_FILENO, octets);
+    io::write_all(STDOUT_FILENO, &*octets);
 }
 
 // The reply on two types.
@@ -109,7 +109,7 @@ fn type_of(found: TypeFound) -> AnyType {
 
 // The reply on two types' texts with a semicolon between them, each under its limits.
 fn texts_reply(a: Limits, b: Limits, texts: &[u8]) {
-    let end = find(texts, 0, b';');
+    let end = find(&*texts, 0, b';');
     if texts.len() <= end {
         return write(b"?\n");
     }
@@ -129,12 +129,12 @@ fn limited_reply(a: u8, b: u8, texts: &[u8]) {
     if !(on_menu(a) && on_menu(b)) {
         return write(b"?\n");
     }
-    texts_reply(limits_of(a), limits_of(b), texts)
+    texts_reply(limits_of(a), limits_of(b), &*texts)
 }
 
 // The reply to a line.
 fn reply(line: &[u8]) {
-    let end = find(line, 0, b';');
+    let end = find(&*line, 0, b';');
     if line.len() <= end {
         return write(b"?\n");
     }
@@ -152,7 +152,7 @@ fn reply(line: &[u8]) {
 fn reply_all(text: &[u8]) {
     let mut from = 0;
     while from < text.len() {
-        let end = find(text, from, b'\n');
+        let end = find(&*text, from, b'\n');
         if text.len() <= end {
             return reply(&text[from..]);
         }

@@ -185,15 +185,15 @@ fn read_lists(text: &[u8], limits: Limits) -> TypeFound
     ensures { λ r. ⌜ r ≡ foundType (typeOfOther limits (now (text .entry))) ⌝ }
 {
     let end = text.len();
-    let bar = find(text, 0, b'|');
-    if same(text, b"DURATION") {
+    let bar = find(&*text, 0, b'|');
+    if same(&*text, b"DURATION") {
         return AnyType::DURATION.limited(limits);
     }
     if end <= bar {
-        return one_list(limits, read_list(text));
+        return one_list(limits, read_list(&*text));
     }
     let next = bar + 1;
-    if find(text, next, b'|') < end {
+    if find(&*text, next, b'|') < end {
         return TypeFound::NoType(false);
     }
     two_lists(limits, read_list(&text[..bar]), read_list(&text[next..]))
@@ -203,14 +203,14 @@ fn read_lists(text: &[u8], limits: Limits) -> TypeFound
 pub fn read_type(text: &[u8], limits: Limits) -> TypeFound
     ensures { λ r. ⌜ r ≡ foundType (typeOf limits (now (text .entry))) ⌝ }
 {
-    if same(text, b"DATE") {
+    if same(&*text, b"DATE") {
         return Type::DATE.limited(limits);
     }
-    if same(text, b"TIME-OF-DAY") {
+    if same(&*text, b"TIME-OF-DAY") {
         return Type::TIME_OF_DAY.limited(limits);
     }
-    if same(text, b"DATE-TIME") {
+    if same(&*text, b"DATE-TIME") {
         return Type::DATE_TIME.limited(limits);
     }
-    read_lists(text, limits)
+    read_lists(&*text, limits)
 }

@@ -82,14 +82,9 @@ pointType s ys =
     (cond (eqb (basicIn s) 2) (listed (Parts.Time (unlimitedTime (timeAt (timeIn s) (zoneIn s)))))
     (listed (Parts.DateTime (unlimitedDate (dateAt (dateIn s)) (yearsOf ys)) (unlimitedTime (timeAt (timeIn s) (zoneIn s))))))
 
--- The type of a list, and of the Years of all lists that share its row.
+-- The type of a list, and of the Years of all lists that share its row: a point's where it has a date or a time.
 unfoldable pub listType : Settings → List ℕ → AnyType
-listType s ys =
-    cond (eqb (basicIn s) 1) (AnyType.Point (listed (Parts.Date (unlimitedDate (dateAt (dateIn s)) (yearsOf ys)))))
-    (cond (eqb (basicIn s) 2) (AnyType.Point (listed (Parts.Time (unlimitedTime (timeAt (timeIn s) (zoneIn s))))))
-    (cond (eqb (basicIn s) 3)
-    (AnyType.Point (listed (Parts.DateTime (unlimitedDate (dateAt (dateIn s)) (yearsOf ys)) (unlimitedTime (timeAt (timeIn s) (zoneIn s))))))
-    AnyType.ListedDuration))
+listType s ys = cond (datedList s || timedList s) (AnyType.Point (pointType s ys)) AnyType.ListedDuration
 
 -- The type of lists. Too many of them, one that is unreadable, one that is repeated, or one in which a limit has no
 -- place are 1; "any other difference is 2".

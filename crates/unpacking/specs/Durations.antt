@@ -7,11 +7,11 @@ use mathlib.Core.Option.{Option, some, none}
 use lib.Dec.{ltb}
 use lib.ListN.{getD, length}
 use Rattle.octets.specs.Found.{Found, found, nothing}
-use Rattle.fields.specs.Readings.{Reading, give, _>>=_, aFree, require, run}
+use Rattle.fields.specs.Readings.{Reading, give, _>>=_, require, run}
 use Rattle.durations.specs.declared.Duration.{Duration}
 use Rattle.durations.specs.Parts.{Part, absent, present, noFraction, numbers}
 use Rattle.durations.specs.Fields.{roots}
-use Rattle.durations.specs.Readings.{natural, readExtended, readNumbers, Tail, tail}
+use Rattle.durations.specs.Readings.{readExtended, readNumbers, Tail, tail}
 use Rattle.unpacking.specs.declared.duration.NumbersRead.{NumbersRead}
 use Rattle.unpacking.specs.declared.duration.TailStep.{TailStep}
 use Rattle.unpacking.specs.Steps.{rest}
@@ -19,10 +19,6 @@ use Rattle.unpacking.specs.Steps.{rest}
 -- The seven presence bits of an octet.
 abbrev pub bitsIn : ℕ → List ℕ
 bitsIn o = (o / 128 % 2) ∷ (o / 64 % 2) ∷ (o / 32 % 2) ∷ (o / 16 % 2) ∷ (o / 8 % 2) ∷ (o / 4 % 2) ∷ (o / 2 % 2) ∷ []
-
--- An unconstrained whole number that is not negative.
-abbrev pub readNatural : Reading ℕ
-readNatural = aFree >>= natural
 
 -- The number of one component by its presence bit, 0 where it is not present.
 unfoldable pub readPlace : ℕ → ℕ → Reading ℕ

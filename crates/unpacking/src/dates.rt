@@ -44,7 +44,7 @@ fn near_year(octets: &[u8], at: Bits, width: Bits, range: u32, lowest: u32) -> I
     ensures { λ r. ⌜ seenInteger (now (octets .entry)) r ≡ run (nearYear range lowest) (rest (now (octets .entry)) at) ⌝ }
     ensures { λ r. ⌜ integerPlace r ≤ at .count + 40 ⌝ }
 {
-    let Step::Got(number, next) = ranged(octets, at, width, range) else {
+    let Step::Got(number, next) = ranged(&*octets, at, width, range) else {
         return IntegerStep::Nothing;
     };
     IntegerStep::Got(Integer::Natural(lowest + number), next)
@@ -58,10 +58,10 @@ fn chosen_year(octets: &[u8], at: Bits, choice: u32) -> IntegerStep
     ensures { λ r. ⌜ integerPlace r ≤ at .count + 40 ⌝ }
 {
     match choice {
-        0 => near_year(octets, at, Bits { count: 4 }, 16, 2005),
-        1 => near_year(octets, at, Bits { count: 8 }, 256, 2021),
-        2 => near_year(octets, at, Bits { count: 8 }, 256, 1749),
-        _ => free(octets, at),
+        0 => near_year(&*octets, at, Bits { count: 4 }, 16, 2005),
+        1 => near_year(&*octets, at, Bits { count: 8 }, 256, 2021),
+        2 => near_year(&*octets, at, Bits { count: 8 }, 256, 1749),
+        _ => free(&*octets, at),
     }
 }
 
@@ -73,12 +73,12 @@ fn year(octets: &[u8], row: YearRow) -> IntegerStep
     let front = Bits { count: 0 };
     match row {
         YearRow::Year => {
-            let Step::Got(choice, next) = ranged(octets, front, Bits { count: 2 }, 4) else {
+            let Step::Got(choice, next) = ranged(&*octets, front, Bits { count: 2 }, 4) else {
                 return IntegerStep::Nothing;
             };
-            chosen_year(octets, next, choice)
+            chosen_year(&*octets, next, choice)
         }
-        YearRow::AnyYear => free(octets, front),
+        YearRow::AnyYear => free(&*octets, front),
     }
 }
 
@@ -88,10 +88,10 @@ fn month_and_day(octets: &[u8], at: Bits, year: Year) -> DateStep
     ensures { λ r. ⌜ seenDate (now (octets .entry)) r ≡ run (readDay year DateForm.YMD) (rest (now (octets .entry)) at) ⌝ }
     ensures { λ r. ⌜ datePlace r ≤ at .count + 9 ⌝ }
 {
-    let Step::Got(month, next) = ranged(octets, at, Bits { count: 4 }, 12) else {
+    let Step::Got(month, next) = ranged(&*octets, at, Bits { count: 4 }, 12) else {
         return DateStep::Nothing;
     };
-    let Step::Got(day, end) = ranged(octets, next, Bits { count: 5 }, 31) else {
+    let Step::Got(day, end) = ranged(&*octets, next, Bits { count: 5 }, 31) else {
         return DateStep::Nothing;
     };
     DateStep::Got(Date::YMD(year, month + 1, day + 1), end)
@@ -103,10 +103,10 @@ fn week_and_weekday(octets: &[u8], at: Bits, year: Year) -> DateStep
     ensures { λ r. ⌜ seenDate (now (octets .entry)) r ≡ run (readDay year DateForm.YWD) (rest (now (octets .entry)) at) ⌝ }
     ensures { λ r. ⌜ datePlace r ≤ at .count + 9 ⌝ }
 {
-    let Step::Got(week, next) = ranged(octets, at, Bits { count: 6 }, 53) else {
+    let Step::Got(week, next) = ranged(&*octets, at, Bits { count: 6 }, 53) else {
         return DateStep::Nothing;
     };
-    let Step::Got(weekday, end) = ranged(octets, next, Bits { count: 3 }, 7) else {
+    let Step::Got(weekday, end) = ranged(&*octets, next, Bits { count: 3 }, 7) else {
         return DateStep::Nothing;
     };
     DateStep::Got(Date::YWD(year, week + 1, weekday + 1), end)
@@ -121,25 +121,25 @@ fn day(octets: &[u8], at: Bits, year: Year, form: DateForm) -> DateStep
     match form {
         DateForm::Y => DateStep::Got(Date::Y(year), at),
         DateForm::YM => {
-            let Step::Got(month, end) = ranged(octets, at, Bits { count: 4 }, 12) else {
+            let Step::Got(month, end) = ranged(&*octets, at, Bits { count: 4 }, 12) else {
                 return DateStep::Nothing;
             };
             DateStep::Got(Date::YM(year, month + 1), end)
         }
-        DateForm::YMD => month_and_day(octets, at, year),
+        DateForm::YMD => month_and_day(&*octets, at, year),
         DateForm::YD => {
-            let Step::Got(day, end) = ranged(octets, at, Bits { count: 9 }, 366) else {
+            let Step::Got(day, end) = ranged(&*octets, at, Bits { count: 9 }, 366) else {
                 return DateStep::Nothing;
             };
             DateStep::Got(Date::YD(year, day + 1), end)
         }
         DateForm::YW => {
-            let Step::Got(week, end) = ranged(octets, at, Bits { count: 6 }, 53) else {
+            let Step::Got(week, end) = ranged(&*octets, at, Bits { count: 6 }, 53) else {
                 return DateStep::Nothing;
             };
             DateStep::Got(Date::YW(year, week + 1), end)
         }
-        DateForm::YWD => week_and_weekday(octets, at, year),
+        DateForm::YWD => week_and_weekday(&*octets, at, year),
     }
 }
 
@@ -148,8 +148,8 @@ pub(crate) fn date(octets: &[u8], row: YearRow, form: DateForm) -> DateStep
     ensures { λ r. ⌜ seenDate (now (octets .entry)) r ≡ run (readDate row form) (unpacked (now (octets .entry))) ⌝ }
     ensures { λ r. ⌜ datePlace r ≤ 51 ⌝ }
 {
-    let IntegerStep::Got(years, next) = year(octets, row) else {
+    let IntegerStep::Got(years, next) = year(&*octets, row) else {
         return DateStep::Nothing;
     };
-    day(octets, next, year_at(years), form)
+    day(&*octets, next, year_at(years), form)
 }

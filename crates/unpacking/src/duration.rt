@@ -10,12 +10,10 @@ ghost use Rattle.durations.specs.Fields.{roots};
 ghost use Rattle.durations.specs.Readings.{readExtended, readTail, durationInOctets};
 ghost use Rattle.durations.specs.Answers.{durationIn};
 ghost use Rattle.unpacking.specs.Steps.{rest, seen, place as placeOf};
-ghost use Rattle.unpacking.specs.Durations.{readNatural, readPlace, bitsIn, bareParts, NumbersAfter, seenTail, durationFrom};
-use crate::numbers::Integer;
-use crate::numbers::IntegerStep;
+ghost use Rattle.unpacking.specs.Durations.{readPlace, bitsIn, bareParts, NumbersAfter, seenTail, durationFrom};
 use crate::numbers::Step;
 use crate::numbers::field;
-use crate::numbers::free;
+use crate::numbers::natural;
 use crate::numbers::power;
 use answers::Bits;
 use durations::Duration;
@@ -49,21 +47,6 @@ fn wide(octet: u8) -> u32
     octet as u32
 }
 
-// An unconstrained whole number that is not negative.
-fn natural(octets: &[u8], at: Bits) -> Step
-    requires { ⌜ at .count ≤ 900 ⌝ }
-    ensures { λ r. ⌜ seen (now (octets .entry)) r ≡ run readNatural (rest (now (octets .entry)) at) ⌝ }
-    ensures { λ r. ⌜ placeOf r ≤ at .count + 40 ⌝ }
-{
-    let IntegerStep::Got(integer, next) = free(octets, at) else {
-        return Step::Nothing;
-    };
-    let Integer::Natural(number) = integer else {
-        return Step::Nothing;
-    };
-    Step::Got(number, next)
-}
-
 // A number of an extensible range, which has so many numbers from the lowest on. The bit for "outside of the range" and the
 // bits of the range are read as one number.
 fn extended(octets: &[u8], at: Bits, lowest: u32, width: Bits, range: u32) -> Step
@@ -78,7 +61,7 @@ fn extended(octets: &[u8], at: Bits, lowest: u32, width: Bits, range: u32) -> St
     let both = Bits {
         count: width.count + 1,
     };
-    let Step::Got(number, end) = field(octets, at, both) else {
+    let Step::Got(number, end) = field(&*octets, at, both) else {
         return Step::Nothing;
     };
     if number < range {
@@ -88,7 +71,7 @@ fn extended(octets: &[u8], at: Bits, lowest: u32, width: Bits, range: u32) -> St
         return Step::Nothing;
     }
     natural(
-        octets,
+        &*octets,
         Bits {
             count: at.count + 1,
         },
@@ -108,7 +91,7 @@ fn number(octets: &[u8], at: Bits, place: u32, present: u32) -> Step
     let width = Bits {
         count: WIDTHS[place as usize],
     };
-    let Step::Got(number, end) = extended(octets, at, 0, width, RANGES[place as usize]) else {
+    let Step::Got(number, end) = extended(&*octets, at, 0, width, RANGES[place as usize]) else {
         return Step::Nothing;
     };
     if number < 1000000000 {
@@ -127,7 +110,7 @@ fn numbers(octets: &[u8], bits: u32) -> NumbersRead
     let mut place = 0;
     while place < 7 {
         let present = (bits >> (7 - place)) % 2;
-        let Step::Got(value, next) = number(octets, at, place, present) else {
+        let Step::Got(value, next) = number(&*octets, at, place, present) else {
             return NumbersRead {
                 readable: false,
                 values,
@@ -153,7 +136,7 @@ fn tail(octets: &[u8], at: Bits, present: u32) -> TailStep
     if present == 0 {
         return TailStep::Got(0, 0);
     }
-    let Step::Got(digits, next) = extended(octets, at, 1, Bits { count: 2 }, 3) else {
+    let Step::Got(digits, next) = extended(&*octets, at, 1, Bits { count: 2 }, 3) else {
         return TailStep::Nothing;
     };
     if digits < 1 {
@@ -162,7 +145,7 @@ fn tail(octets: &[u8], at: Bits, present: u32) -> TailStep
     if 9 < digits {
         return TailStep::Nothing;
     }
-    let Step::Got(fraction, _) = extended(octets, next, 1, Bits { count: 10 }, 999) else {
+    let Step::Got(fraction, _) = extended(&*octets, next, 1, Bits { count: 10 }, 999) else {
         return TailStep::Nothing;
     };
     if has_digits(fraction, digits) {
@@ -221,12 +204,12 @@ pub fn unpack_duration(octets: &[u8]) -> DurationRead
         return DurationRead::Nothing;
     }
     let bits = wide(octets[0]);
-    let numbers = numbers(octets, bits);
+    let numbers = numbers(&*octets, bits);
     if !numbers.readable {
         return DurationRead::Nothing;
     }
     let at = numbers.at;
-    let TailStep::Got(digits, fraction) = tail(octets, at, bits % 2) else {
+    let TailStep::Got(digits, fraction) = tail(&*octets, at, bits % 2) else {
         return DurationRead::Nothing;
     };
     if !well_made(bits) {

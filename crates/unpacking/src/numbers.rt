@@ -3,7 +3,7 @@ ghost use mathlib.Core.Path.{_≡_};
 ghost use Prim.Native.Nat.{_+_, _^_, _≤_, _<_};
 ghost use lib.ListN.{length};
 ghost use Rattle.fields.specs.Fields.{width as widthOf};
-ghost use Rattle.fields.specs.Readings.{run, readBits, aRanged, aFree};
+ghost use Rattle.fields.specs.Readings.{run, readBits, aRanged, aFree, aNatural};
 ghost use Rattle.unpacking.specs.Steps.{numberAt, rest, seen, seenInteger, integerOf, signedOf, below, numberRead, place, stepBelow, integerPlace};
 use answers::Bits;
 use answers::Octets;
@@ -86,7 +86,7 @@ pub(crate) fn field(octets: &[u8], at: Bits, width: Bits) -> Step
     }
     let first = with_first.count - 1;
     let count = with_all.count - first;
-    let number = gathered(octets, Octets { count: first }, Octets { count });
+    let number = gathered(&*octets, Octets { count: first }, Octets { count });
     let after = end.filling();
     Step::Got(((number >> after.count) % power(width.count)) as u32, end)
 }
@@ -99,7 +99,7 @@ pub(crate) fn ranged(octets: &[u8], at: Bits, width: Bits, range: u32) -> Step
     ensures { λ r. ⌜ seen (now (octets .entry)) r ≡ run (aRanged range) (rest (now (octets .entry)) at) ⌝ }
     ensures { λ r. ⌜ (numberRead r ≤ range) × (place r ≤ at .count + width .count) ⌝ }
 {
-    let Step::Got(number, next) = field(octets, at, width) else {
+    let Step::Got(number, next) = field(&*octets, at, width) else {
         return Step::Nothing;
     };
     if number < range {
@@ -129,7 +129,7 @@ pub(crate) fn free(octets: &[u8], at: Bits) -> IntegerStep
     ensures { λ r. ⌜ seenInteger (now (octets .entry)) r ≡ run aFree (rest (now (octets .entry)) at) ⌝ }
     ensures { λ r. ⌜ (1 ≤ stepBelow r) × (integerPlace r ≤ at .count + 40) ⌝ }
 {
-    let Step::Got(length, next) = field(octets, at, Bits { count: 8 }) else {
+    let Step::Got(length, next) = field(&*octets, at, Bits { count: 8 }) else {
         return IntegerStep::Nothing;
     };
     let width = match length {
@@ -139,8 +139,23 @@ pub(crate) fn free(octets: &[u8], at: Bits) -> IntegerStep
         4 => Bits { count: 32 },
         _ => return IntegerStep::Nothing,
     };
-    let Step::Got(number, end) = field(octets, next, width) else {
+    let Step::Got(number, end) = field(&*octets, next, width) else {
         return IntegerStep::Nothing;
     };
     IntegerStep::Got(signed(number, width), end)
+}
+
+// An unconstrained whole number that is not negative.
+pub(crate) fn natural(octets: &[u8], at: Bits) -> Step
+    requires { ⌜ at .count ≤ 900 ⌝ }
+    ensures { λ r. ⌜ seen (now (octets .entry)) r ≡ run aNatural (rest (now (octets .entry)) at) ⌝ }
+    ensures { λ r. ⌜ place r ≤ at .count + 40 ⌝ }
+{
+    let IntegerStep::Got(integer, next) = free(&*octets, at) else {
+        return Step::Nothing;
+    };
+    let Integer::Natural(number) = integer else {
+        return Step::Nothing;
+    };
+    Step::Got(number, next)
 }

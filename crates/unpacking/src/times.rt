@@ -5,10 +5,8 @@ ghost use Rattle.texts.specs.declared.forms.ZoneForm.{ZoneForm};
 ghost use Rattle.fields.specs.Readings.{run};
 ghost use Rattle.rows.specs.Readings.{readClock, readExtended, readFraction, readMinutes, differenceAt, readZone, readTime};
 ghost use Rattle.unpacking.specs.Steps.{rest, afterHours, seen, seenClock, seenZone, seenTime, place, clockPlace};
-use crate::numbers::Integer;
-use crate::numbers::IntegerStep;
 use crate::numbers::Step;
-use crate::numbers::free;
+use crate::numbers::natural;
 use crate::numbers::ranged;
 use answers::Bits;
 use texts::Clock;
@@ -45,16 +43,16 @@ fn after_hours(octets: &[u8], at: Bits, hours: u32, form: ClockForm) -> ClockSte
     match form {
         ClockForm::H => ClockStep::Got(Clock::H(hours), at),
         ClockForm::HM => {
-            let Step::Got(minutes, end) = ranged(octets, at, Bits { count: 6 }, 60) else {
+            let Step::Got(minutes, end) = ranged(&*octets, at, Bits { count: 6 }, 60) else {
                 return ClockStep::Nothing;
             };
             ClockStep::Got(Clock::HM(hours, minutes), end)
         }
         ClockForm::HMS => {
-            let Step::Got(minutes, next) = ranged(octets, at, Bits { count: 6 }, 60) else {
+            let Step::Got(minutes, next) = ranged(&*octets, at, Bits { count: 6 }, 60) else {
                 return ClockStep::Nothing;
             };
-            let Step::Got(seconds, end) = ranged(octets, next, Bits { count: 6 }, 61) else {
+            let Step::Got(seconds, end) = ranged(&*octets, next, Bits { count: 6 }, 61) else {
                 return ClockStep::Nothing;
             };
             ClockStep::Got(Clock::HMS(hours, minutes, seconds), end)
@@ -68,10 +66,10 @@ fn clock(octets: &[u8], at: Bits, form: ClockForm) -> ClockStep
     ensures { λ r. ⌜ seenClock (now (octets .entry)) r ≡ run (readClock form) (rest (now (octets .entry)) at) ⌝ }
     ensures { λ r. ⌜ clockPlace r ≤ at .count + 17 ⌝ }
 {
-    let Step::Got(hours, next) = ranged(octets, at, Bits { count: 5 }, 25) else {
+    let Step::Got(hours, next) = ranged(&*octets, at, Bits { count: 5 }, 25) else {
         return ClockStep::Nothing;
     };
-    after_hours(octets, next, hours, form)
+    after_hours(&*octets, next, hours, form)
 }
 
 // The number of a fraction after its first bit: a constrained whole number up to 999, or an unconstrained one that is
@@ -82,15 +80,9 @@ fn extended(octets: &[u8], at: Bits, bit: u32) -> Step
     ensures { λ r. ⌜ place r ≤ at .count + 40 ⌝ }
 {
     if bit == 0 {
-        return ranged(octets, at, Bits { count: 10 }, 1000);
+        return ranged(&*octets, at, Bits { count: 10 }, 1000);
     }
-    let IntegerStep::Got(integer, next) = free(octets, at) else {
-        return Step::Nothing;
-    };
-    let Integer::Natural(number) = integer else {
-        return Step::Nothing;
-    };
-    Step::Got(number, next)
+    natural(&*octets, at)
 }
 
 // A fraction of so many digits; 0 for none.
@@ -102,10 +94,10 @@ fn fraction(octets: &[u8], at: Bits, digits: u32) -> Step
     if digits == 0 {
         return Step::Got(0, at);
     }
-    let Step::Got(bit, next) = ranged(octets, at, Bits { count: 1 }, 2) else {
+    let Step::Got(bit, next) = ranged(&*octets, at, Bits { count: 1 }, 2) else {
         return Step::Nothing;
     };
-    let Step::Got(number, end) = extended(octets, next, bit) else {
+    let Step::Got(number, end) = extended(&*octets, next, bit) else {
         return Step::Nothing;
     };
     if has_digits(number, digits) {
@@ -122,7 +114,7 @@ fn minutes(octets: &[u8], at: Bits, present: u32) -> Step
     if present == 0 {
         return Step::Got(0, at);
     }
-    let Step::Got(number, next) = ranged(octets, at, Bits { count: 6 }, 59) else {
+    let Step::Got(number, next) = ranged(&*octets, at, Bits { count: 6 }, 59) else {
         return Step::Nothing;
     };
     Step::Got(number + 1, next)
@@ -151,13 +143,14 @@ fn difference(octets: &[u8], at: Bits) -> ZoneStep
     requires { ⌜ at .count ≤ 190 ⌝ }
     ensures { λ r. ⌜ seenZone (now (octets .entry)) r ≡ run (readZone ZoneForm.LD) (rest (now (octets .entry)) at) ⌝ }
 {
-    let Step::Got(present, after_present) = ranged(octets, at, Bits { count: 1 }, 2) else {
+    let Step::Got(present, after_present) = ranged(&*octets, at, Bits { count: 1 }, 2) else {
         return ZoneStep::Nothing;
     };
-    let Step::Got(hours, after_hours) = ranged(octets, after_present, Bits { count: 5 }, 32) else {
+    let Step::Got(hours, after_hours) = ranged(&*octets, after_present, Bits { count: 5 }, 32)
+    else {
         return ZoneStep::Nothing;
     };
-    let Step::Got(minutes, end) = minutes(octets, after_hours, present) else {
+    let Step::Got(minutes, end) = minutes(&*octets, after_hours, present) else {
         return ZoneStep::Nothing;
     };
     ZoneStep::Got(Zone::LD(difference_at(hours, minutes)), end)
@@ -171,7 +164,7 @@ fn zone(octets: &[u8], at: Bits, form: ZoneForm) -> ZoneStep
     match form {
         ZoneForm::L => ZoneStep::Got(Zone::L, at),
         ZoneForm::Z => ZoneStep::Got(Zone::Z, at),
-        ZoneForm::LD => difference(octets, at),
+        ZoneForm::LD => difference(&*octets, at),
     }
 }
 
@@ -183,13 +176,13 @@ pub(crate) fn time(octets: &[u8], at: Bits, form: TimeForm) -> TimeStep
     let clock_form = form.clock;
     let digits = form.digits;
     let zone_form = form.zone;
-    let ClockStep::Got(clock, after_clock) = clock(octets, at, clock_form) else {
+    let ClockStep::Got(clock, after_clock) = clock(&*octets, at, clock_form) else {
         return TimeStep::Nothing;
     };
-    let Step::Got(fraction, after_fraction) = fraction(octets, after_clock, digits) else {
+    let Step::Got(fraction, after_fraction) = fraction(&*octets, after_clock, digits) else {
         return TimeStep::Nothing;
     };
-    let ZoneStep::Got(zone, end) = zone(octets, after_fraction, zone_form) else {
+    let ZoneStep::Got(zone, end) = zone(&*octets, after_fraction, zone_form) else {
         return TimeStep::Nothing;
     };
     let time = Time {

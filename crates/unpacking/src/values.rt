@@ -24,7 +24,7 @@ pub enum ValueRead {
 fn read_date(row: YearRow, form: DateForm, octets: &[u8]) -> ValueRead
     ensures { λ r. ⌜ r ≡ valueIn (readOctets row (Form.Date form) (now (octets .entry))) ⌝ }
 {
-    let DateStep::Got(date, _) = date(octets, row, form) else {
+    let DateStep::Got(date, _) = date(&*octets, row, form) else {
         return ValueRead::Nothing;
     };
     ValueRead::Value(Value::Date(date))
@@ -34,7 +34,7 @@ fn read_date(row: YearRow, form: DateForm, octets: &[u8]) -> ValueRead
 fn read_time(row: YearRow, form: TimeForm, octets: &[u8]) -> ValueRead
     ensures { λ r. ⌜ r ≡ valueIn (readOctets row (Form.Time form) (now (octets .entry))) ⌝ }
 {
-    let TimeStep::Got(time, _) = time(octets, Bits { count: 0 }, form) else {
+    let TimeStep::Got(time, _) = time(&*octets, Bits { count: 0 }, form) else {
         return ValueRead::Nothing;
     };
     ValueRead::Value(Value::Time(time))
@@ -44,10 +44,10 @@ fn read_time(row: YearRow, form: TimeForm, octets: &[u8]) -> ValueRead
 fn read_date_time(row: YearRow, before: DateForm, form: TimeForm, octets: &[u8]) -> ValueRead
     ensures { λ r. ⌜ r ≡ valueIn (readOctets row (Form.DateTime before form) (now (octets .entry))) ⌝ }
 {
-    let DateStep::Got(date, next) = date(octets, row, before) else {
+    let DateStep::Got(date, next) = date(&*octets, row, before) else {
         return ValueRead::Nothing;
     };
-    let TimeStep::Got(time, _) = time(octets, next, form) else {
+    let TimeStep::Got(time, _) = time(&*octets, next, form) else {
         return ValueRead::Nothing;
     };
     ValueRead::Value(Value::DateTime(date, time))
@@ -58,8 +58,8 @@ pub fn unpack(row: YearRow, form: Form, octets: &[u8]) -> ValueRead
     ensures { λ r. ⌜ r ≡ valueIn (readOctets row form (now (octets .entry))) ⌝ }
 {
     match form {
-        Form::Date(date) => read_date(row, date, octets),
-        Form::Time(time) => read_time(row, time, octets),
-        Form::DateTime(date, time) => read_date_time(row, date, time, octets),
+        Form::Date(date) => read_date(row, date, &*octets),
+        Form::Time(time) => read_time(row, time, &*octets),
+        Form::DateTime(date, time) => read_date_time(row, date, time, &*octets),
     }
 }

@@ -31,7 +31,7 @@ pub fn admit(t: Type, text: &[u8]) -> Admission
     if !t.well_formed() {
         return Admission::Refused(Refusal::Settings);
     }
-    let TextRead::Value(value, _) = read_text(t.form(), text) else {
+    let TextRead::Value(value, _) = read_text(t.form(), &*text) else {
         return Admission::Refused(Refusal::Form);
     };
     let judgement = judge(t, value);

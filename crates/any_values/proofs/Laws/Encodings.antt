@@ -28,7 +28,8 @@ use Rattle.kinds.specs.Coding.{decoded}
 use Rattle.kinds.specs.Lawful.{Holds, Notation}
 use Rattle.kinds.proofs.Laws.Coding as Coding
 use Rattle.printing.proofs.Laws.Canonical.{text-length}
-use Rattle.any_values.specs.Encodings.{AnyEncoding, encodedBy}
+use Rattle.kinds.specs.Kinds.{Encoding}
+use Rattle.any_values.specs.Encodings.{encodedBy}
 use Rattle.any_values.specs.Holding.{existsValue, inType}
 use Rattle.any_values.specs.Texts.{AnySpelling, asDuration, asPoint, canonical, formOf, readText, render, textOf}
 use Rattle.any_values.specs.declared.AnyForm.{AnyForm}
@@ -69,7 +70,7 @@ text-most : (v : AnyValue) → existsValue v ≡ true → length (textOf v) ≤ 
 text-most (AnyValue.Point v) h = let l = text-length v (exists-digits v h) in omega arith
 text-most (AnyValue.Duration d) h = duration-length Durations.canonical d h
 
-module _ {R : Type 0} (E : AnyEncoding R) where
+module _ {R : Type 0} (E : Encoding AnyType AnyForm R AnyValue) where
   -- Any text of a value that a type holds is read as it.
   pub text-read : (t : AnyType) (v : AnyValue) → Holds (encodedBy E) t v → (s : AnySpelling) → readText (formOf t) (render s v) ≡ some v
   text-read (AnyType.Point t) (AnyValue.Point v) h s = ap (λ x. asPoint (ofText x)) (held-read t v (holds-both t v (h .real) (h .inside)) (s .point))

@@ -11,20 +11,21 @@ use Rattle.types.specs.declared.types.AnyType.{AnyType}
 use Rattle.types.specs.declared.types.«Type».{«Type» as Ty}
 use Rattle.kinds.specs.Coding.{compared, decoded, encoded, judgedAs, judgedOctets, judgedText}
 use Rattle.held_values.specs.Encodings as Points
-use Rattle.held_values.specs.Encodings.{Encoding, ofText}
-use Rattle.any_values.specs.Encodings.{AnyEncoding, encodedBy}
+use Rattle.held_values.specs.Encodings.{ofText}
+use Rattle.kinds.specs.Kinds.{Encoding}
+use Rattle.any_values.specs.Encodings.{encodedBy}
 use Rattle.any_values.specs.Texts.{asPoint}
 use Rattle.any_values.specs.declared.AnyForm.{AnyForm}
 use Rattle.any_values.specs.declared.AnyValue.{AnyValue}
 
 -- That an encoding of points and durations has points as an encoding of points has them.
-pub record Extends {R : Type 0} (E : AnyEncoding R) (B : Encoding R) : Type 0 where
+pub record Extends {R : Type 0} (E : Encoding AnyType AnyForm R AnyValue) (B : Encoding Ty Form R Value) : Type 0 where
   pub row-is : (t : Ty) → E .row (AnyType.Point t) ≡ B .row t
   pub encoding-is : (row : R) (v : Value) → E .encoding row (AnyValue.Point v) ≡ B .encoding row v
   pub count-is : (row : R) (v : Value) → E .count row (AnyValue.Point v) ≡ B .count row v
   pub octets-are : (row : R) (f : Form) (octets : List ℕ) → E .readOctets row (AnyForm.Point f) octets ≡ asPoint (B .readOctets row f octets)
 
-module _ {R : Type 0} (E : AnyEncoding R) (B : Encoding R) (X : Extends E B) (t : Ty) where
+module _ {R : Type 0} (E : Encoding AnyType AnyForm R AnyValue) (B : Encoding Ty Form R Value) (X : Extends E B) (t : Ty) where
   -- Under a point's type the encoder answers as that of points.
   pub point-encoded : (text : List ℕ) → encoded (encodedBy E) (AnyType.Point t) text ≡ encoded (Points.encodedBy B) t text
   unfolding encoded

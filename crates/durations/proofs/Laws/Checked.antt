@@ -17,7 +17,7 @@ use Rattle.texts.specs.Years.{sizeIn}
 use Rattle.fields.specs.Bits.{bitsOf, numberIn, packed, octetsOf, unpacked}
 use Rattle.fields.specs.Integers.{half, within, fewest, twos, fromTwos}
 use Rattle.fields.specs.Fields.{binaryDigits, width, fieldBits, layout, fieldWidth, bitCount}
-use Rattle.fields.specs.Readings.{_>>=_, aRanged, aFree, require, readBits, readRanged, readFree, run}
+use Rattle.fields.specs.Readings.{_>>=_, aRanged, aFree, require, readBits, readRanged, readFree, run, natural}
 use Rattle.durations.specs.declared.Duration.{Duration}
 use Rattle.durations.specs.Parts.{count, anyPresent, lastIn, ofLast, numbers, partAt, wellMade}
 use Rattle.durations.specs.Durations.{shown, spellable, durationOf, allZero, endsAt, allSmall, weeksAlone, existsDuration}
@@ -25,7 +25,7 @@ use Rattle.durations.specs.Texts.{numberDigits, putNumber, putPart, putP
 use Rattle.durations.specs.Texts.{getPresent, getPart, getParts}
 use Rattle.durations.specs.Texts.{getTimes, getDuration, readDuration, renderDuration, durationText}
 use Rattle.durations.specs.Fields.{longNumber, extended, presences, numberFields, fractionPart, durationFields}
-use Rattle.durations.specs.Readings.{natural, readAfter, readExtended, readPresences, readNumbers, readTail, endedBy, readFields}
+use Rattle.durations.specs.Readings.{readAfter, readExtended, readPresences, readNumbers, readTail, endedBy, readFields}
 
 -- a text, its canonical text, the octets in PER, and their bit count
 data Row : Type 0 where

@@ -12,7 +12,7 @@ use borrow.Author.Tests.{le-leb, lt-ltb, leb-true, ltb-true}
 use Rattle.fields.specs.Integers.{within, half}
 use Rattle.fields.specs.Fields.{Field, Ranged}
 use Rattle.octets.specs.Found.{found}
-use Rattle.fields.specs.Readings.{Reading, over, require, give}
+use Rattle.fields.specs.Readings.{Reading, over, require, give, natural}
 use Rattle.octets.proofs.Laws.Cases.{by-test, both}
 use Rattle.fields.proofs.Laws.Integers.{within-in}
 use Rattle.fields.proofs.Laws.Readings.{over-bind, over-ranged, over-free}
@@ -22,7 +22,7 @@ use Rattle.texts.specs.declared.parts.Fraction.{Fraction}
 use Rattle.durations.specs.Parts.{Part, absent, anyPresent, bare, bares, count, isPresent, noFraction, partAt, present, wellMade}
 use Rattle.durations.specs.Durations.{numbersOf, fractionOf, first, later, shown, spellable, partsOf, durationOf, existsDuration}
 use Rattle.durations.specs.Fields.{longNumber, extended, roots, presence, presences, numberFields, fractionPart, durationFields}
-use Rattle.durations.specs.Readings.{natural, readAfter, readExtended, readPresences, readNumbers, Tail, tail, readTail, endedBy, readFields}
+use Rattle.durations.specs.Readings.{readAfter, readExtended, readPresences, readNumbers, Tail, tail, readTail, endedBy, readFields}
 use Rattle.durations.proofs.Laws.Parts.{or-true, ends-within, some-absents, exists-parts, duration-back}
 use Rattle.durations.proofs.Laws.Texts.{comma-shown}
 use Rattle.durations.proofs.Laws.Made.{AllFit, shown-fit, shown-length, made}

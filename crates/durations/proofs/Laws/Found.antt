@@ -12,14 +12,14 @@ use Rattle.octets.proofs.Laws.Cases.{both}
 use Rattle.fields.specs.Integers.{within}
 use Rattle.fields.specs.Fields.{Field, Ranged, Free}
 use Rattle.octets.specs.Found.{found}
-use Rattle.fields.specs.Readings.{give, _>>=_, aRanged, aFree, require, over}
+use Rattle.fields.specs.Readings.{give, _>>=_, aRanged, aFree, require, over, natural}
 use Rattle.fields.proofs.Laws.Paths.{Paths, paths-over, paths-then, paths-weaken, paths-require, paths-give}
 use Rattle.texts.specs.Times.{fraction}
 use Rattle.durations.specs.declared.Duration.{Duration}
 use Rattle.durations.specs.Parts.{Part, absent, anyPresent, bares, count, digitsIn, isPresent, noFraction, numbers, partAt, present, wellMade}
 use Rattle.durations.specs.Durations.{allSmall, durationOf, existsDuration}
 use Rattle.durations.specs.Fields.{longNumber, extended, roots, presence, presences}
-use Rattle.durations.specs.Readings.{natural, readAfter, readExtended, readPresences, readNumbers, Tail, tail, readTail, withTail, endedBy, readFields}
+use Rattle.durations.specs.Readings.{readAfter, readExtended, readPresences, readNumbers, Tail, tail, readTail, withTail, endedBy, readFields}
 use Rattle.durations.specs.Loose.{LooseDuration, Numbered, looseNumber, looseNumbers, looseTail, parted, whole}
 use Rattle.durations.proofs.Laws.Parts.{or-true}
 use Rattle.durations.proofs.Laws.Made.{PartFits, AllFit, tidy}
@@ -197,7 +197,7 @@ present-ended t true p = refl
 present-ended t false absent = refl
 present-ended t false (present n d f) = refl
 
-some-ended : (t : Tail) (ps : List Part) → anyPresent (endedBy t ps) ≡ anyPresent ps
+pub some-ended : (t : Tail) (ps : List Part) → anyPresent (endedBy t ps) ≡ anyPresent ps
 unfolding anyPresent endedBy
 some-ended t [] = refl
 some-ended t (p ∷ ps) = rw (some-ended t ps, present-ended t (anyPresent ps) p)

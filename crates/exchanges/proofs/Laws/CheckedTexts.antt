@@ -19,7 +19,7 @@ use Rattle.lists.specs.Lists.{addPair, addPairs, complete, completed, datedList
 use Rattle.lists.specs.Words.{fractionNumber, pairOf, placeFrom}
 use Rattle.types.specs.Numbers.{clockAt, dateAt, zoneAt}
 use Rattle.type_texts.proofs.Laws.CheckedTypes.{bothLimits, from2000, noHour24, noYears}
-use Rattle.type_texts.specs.TypeTexts.{allOf, distinct, equalLists, joined, listType, listsOf, member, oneRow, sameButYear, timeAt, typeOf, usable}
+use Rattle.type_texts.specs.TypeTexts.{allOf, distinct, equalLists, joined, listType, pointType, listsOf, member, oneRow, sameButYear, timeAt, typeOf, usable}
 use Rattle.type_texts.specs.TypeTexts.{yearFamily, yearsOf}
 use Rattle.types.specs.AnyTypes.{limitedTo}
 use Rattle.types.specs.Types.{noLimits, placed, typeNumber}
@@ -241,7 +241,7 @@ unfolding rows numberIn textAfter textRead textIn isRight allRight upTo quotient
     getAfterHours getClock putFraction getFraction putZone getMinutes getDifference getZone putTime getTime sizeIn yearDigits yearText signedFits getSigned
     getYear splitOn addPair addPairs datedList timedList complete completed listOf eqList placeFrom fractionNumber pairOf dateAt clockAt zoneAt listsOf
     sameButYear yearFamily oneRow equalLists allOf distinct usable member yearsOf timeAt listType joined typeOf placed limitedTo judged admitted existsClock
-    existsFraction existsDifference existsTime sameDateForm sameTimeForm between admitsDate admitsTime inType holdsOf intervalList durationOf
+    pointType existsFraction existsDifference existsTime sameDateForm sameTimeForm between admitsDate admitsTime inType holdsOf intervalList durationOf
     shown spellable anyPresent count lastIn numbers ofLast partAt wellMade fractionLength getDuration getEnd getNumber getPart getParts getPresent getTimes
     needless numberDigits putDuration putNumber putPart putParts putTimes readDuration renderDuration
 texts-checked = refl
@@ -251,7 +251,7 @@ unfolding limited early from1500 numberIn textAfter textRead textIn isRight allR
     weekOneOf weeksOf astronomicalOf yearAt leapOf yearLengthOf putAfter putDate getWeek getAfter getDate putDigits getDigits getField leading render getValue
     readUpTo putClock getAfterHours getClock putFraction getFraction putZone getMinutes getDifference getZone putTime getTime sizeIn yearDigits yearText
     signedFits getSigned getYear splitOn addPair addPairs datedList timedList complete completed listOf eqList placeFrom fractionNumber pairOf dateAt clockAt
-    zoneAt listsOf sameButYear yearFamily oneRow equalLists allOf distinct usable member yearsOf timeAt listType joined typeOf placed limitedTo judged
+    zoneAt listsOf sameButYear yearFamily oneRow equalLists allOf distinct usable member yearsOf timeAt listType pointType joined typeOf placed limitedTo judged
     admitted existsClock existsFraction existsDifference existsTime sameDateForm sameTimeForm between admitsDate admitsTime inType holdsOf
     intervalList durationOf
     shown spellable anyPresent count lastIn numbers ofLast partAt wellMade fractionLength getDuration getEnd getNumber getPart getParts getPresent getTimes

@@ -2,9 +2,10 @@
 use mathlib.Core.Path.{_≡_, refl, ap, sym, _∙_}
 use mathlib.Core.Bool.{Bool, true, false, cond, _&&_}
 use mathlib.Core.List.{List, [], _∷_, _++_, append-assoc}
-use Prim.Native.Nat.{ℕ, _*_, _-_, _≤_}
+use Prim.Native.Nat.{ℕ, zero, suc, _*_, _-_, _≤_}
+use native.Mathlib.Omega.{arith}
 use lib.Dec.{leb, ltb, eqb}
-use lib.IntN.{ℤ}
+use lib.IntN.{ℤ, pos, negℤ}
 use borrow.Author.Tests.{le-leb, lt-ltb, leb-true, ltb-true, eqb-true, eq-eqb}
 use Rattle.octets.specs.Found.{Found, found, nothing, onward}
 use Rattle.octets.proofs.Laws.Cases.{by-test, both}
@@ -12,7 +13,7 @@ use Rattle.octets.proofs.Laws.Found.{nothing-not, found-value, found-rest, foun
 use Rattle.fields.specs.Bits.{BitString, bitsOf}
 use Rattle.fields.specs.Integers.{within, fewest, twos}
 use Rattle.fields.specs.Fields.{Field, Ranged, Free, width, fieldBits, layout}
-use Rattle.fields.specs.Readings.{Reading, give, ranged, free, refuse, _>>=_, aRanged, aFree, readRanged, readFree, run, over}
+use Rattle.fields.specs.Readings.{Reading, give, ranged, free, refuse, _>>=_, aRanged, aFree, natural, readRanged, readFree, run, over}
 use Rattle.fields.specs.Spelled.{SpelledField, Range, Integer, spelledFields, wellSpelled, spelledBits}
 use Rattle.fields.proofs.Laws.Integers.{within-more, fewest-fits}
 use Rattle.fields.proofs.Laws.Fields.{read-ranged, read-ranged-only, read-free, read-free-only}
@@ -211,3 +212,14 @@ strict-well refuse fs a e = nothing-not e
 pub run-layout : {A : Type 0} (t : Reading A) (fs : List Field) (s : BitString) (a : A) → over t fs ≡ found a [] → run t (layout fs ++ s) ≡ found a s
 run-layout t fs s a e =
     rw (layout-strict fs) (run-spelled t (strict fs) s a (strict-well t fs a e) (rw (fields-strict fs) e))
+
+-- ---- a number that is not negative
+
+pub natural-some : (n : ℕ) (s : BitString) → run (natural (pos n)) s ≡ found n s
+unfolding natural run
+natural-some n s = refl
+
+pub negative-none : (n : ℕ) (s : BitString) → 1 ≤ n → run (natural (negℤ (pos n))) s ≡ nothing
+unfolding natural run
+negative-none zero s h = absurd (omega arith)
+negative-none (suc n) s h = refl

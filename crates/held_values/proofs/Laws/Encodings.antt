@@ -31,13 +31,13 @@ use Rattle.held_values.proofs.Laws.Existing.{exists-digits, held-fits, 
 use Rattle.held_values.proofs.Laws.Holding.{form-same, held, holds-both, in-type, same-form}
 use mathlib.Core.Option.{none, some}
 use Rattle.kinds.specs.Coding.{encoded, decoded, judgedText, judgedAs}
-use Rattle.kinds.specs.Kinds.{holds}
+use Rattle.kinds.specs.Kinds.{Encoding, holds}
 use Rattle.kinds.specs.Lawful.{Holds, Notation}
 use Rattle.kinds.proofs.Laws.Coding as Coding
-use Rattle.held_values.specs.Encodings.{Encoding, ofText, encodedBy}
+use Rattle.held_values.specs.Encodings.{ofText, encodedBy}
 
 -- What an admission answers: the encoding of the value, or the refusal.
-abbrev pub admissionAnswer : {R : Type 0} → Encoding R → R → Admission → Answer
+abbrev pub admissionAnswer : {R : Type 0} → Encoding Ty Form R Value → R → Admission → Answer
 admissionAnswer E row (Admission.Value v) = done (E .encoding row v) (E .count row v)
 admissionAnswer E row (Admission.Refused why) = refused why
 
@@ -75,7 +75,7 @@ held-form t v h f w e = go (sameForm (valueForm v) f) refl
         (λ q. false≢true (sym b ∙ form-same (valueForm v) f q)) in
         absurd (let o = sym (ap ofText n) ∙ e in let z : _≡_ {A = ℕ} 0 1 = cc in omega arith)
 
-module _ {R : Type 0} (E : Encoding R) where
+module _ {R : Type 0} (E : Encoding Ty Form R Value) where
   pub held-by : (t : Ty) (v : Value) → Holds (encodedBy E) t v → holdsOf t v ≡ true
   held-by t v h = holds-both t v (h .real) (h .inside)
 

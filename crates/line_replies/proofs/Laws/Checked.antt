@@ -20,7 +20,7 @@ use Rattle.texts.specs.Years.{getSigned, getYear, signedFits, sizeIn, yearDigit
 use Rattle.lists.specs.Lists.{addPair, addPairs, complete, completed, datedList, intervalList, listOf, timedList}
 use Rattle.lists.specs.Words.{fractionNumber, pairOf, placeFrom}
 use Rattle.types.specs.Numbers.{clockAt, dateAt, zoneAt}
-use Rattle.type_texts.specs.TypeTexts.{allOf, distinct, equalLists, joined, listType, listsOf, member, oneRow, sameButYear, timeAt, typeOf, usable}
+use Rattle.type_texts.specs.TypeTexts.{allOf, distinct, equalLists, joined, listType, pointType, listsOf, member, oneRow, sameButYear, timeAt, typeOf, usable}
 use Rattle.type_texts.specs.TypeTexts.{yearFamily, yearsOf}
 use Rattle.types.specs.AnyTypes.{limitedTo}
 use Rattle.types.specs.Types.{placed}
@@ -30,10 +30,10 @@ use Rattle.held_values.specs.Holding.{admitsDate, admitsTime, between, inType}
 use Rattle.fields.specs.Bits.{bitsOf, numberIn, octetsOf, packed, unpacked}
 use Rattle.fields.specs.Integers.{fewest, fromTwos, half, twos, within}
 use Rattle.fields.specs.Fields.{binaryDigits, bitCount, fieldBits, fieldWidth, layout, width}
-use Rattle.fields.specs.Readings.{_>>=_, aFree, aRanged, readBits, readFree, readRanged, require, run}
+use Rattle.fields.specs.Readings.{_>>=_, aFree, aRanged, readBits, readFree, readRanged, require, run, natural}
 use Rattle.rows.specs.Fields.{choiceOfYear, clockFields, dateFields, dayFields, differenceFields, fieldsOf, fractionFields, hoursField, longFraction}
 use Rattle.rows.specs.Fields.{otherYear, timeFields, yearFields, zoneFields}
-use Rattle.rows.specs.Readings.{differenceAt, natural, readChoice, readClock, readDate, readDay, readExtended, readFraction, readMinutes, readOctets}
+use Rattle.rows.specs.Readings.{differenceAt, readChoice, readClock, readDate, readDay, readExtended, readFraction, readMinutes, readOctets}
 use Rattle.rows.specs.Readings.{readTime, readValue, readYear, readZone}
 use Rattle.durations.specs.Durations.{allSmall, allZero, durationOf, endsAt, existsDuration, shown, spellable, weeksAlone}
 use Rattle.durations.specs.Fields.{durationFields, extended, fractionPart, longNumber, numberFields, presences}
@@ -107,14 +107,14 @@ unfolding upTo quotient remainder divisible monthLengthOf daysOfYears newYear we
     putDate getWeek getAfter getDate putDigits getDigits getField leading render getValue readUpTo putClock getAfterHours getClock putFraction getFraction
     putZone getMinutes getDifference getZone putTime getTime sizeIn yearDigits yearText signedFits getSigned getYear splitOn addPair addPairs datedList
     timedList complete completed listOf eqList placeFrom fractionNumber pairOf dateAt clockAt zoneAt listsOf sameButYear yearFamily oneRow equalLists allOf
-    distinct usable member yearsOf timeAt listType joined typeOf placed limitedTo existsClock existsFraction existsDifference existsTime sameDateForm
+    distinct usable member yearsOf timeAt listType pointType joined typeOf placed limitedTo existsClock existsFraction existsDifference existsTime sameDateForm
     sameTimeForm between admitsDate admitsTime inType bitsOf numberIn packed octetsOf unpacked half within fewest twos fromTwos binaryDigits width fieldBits
     layout fieldWidth bitCount _>>=_ aRanged aFree require readBits readRanged readFree run otherYear choiceOfYear yearFields dayFields dateFields clockFields
     longFraction fractionFields hoursField differenceFields zoneFields timeFields fieldsOf readChoice readYear readDay readDate readClock natural readExtended
     readFraction readMinutes differenceAt readZone readTime readValue readOctets judgedAs judgedText encoded compared judgedOctets decoded encodingOf countOf
     octetsFor spanTo without contentsOf element elementOf allDigits digitsOnly separated readElement hexDigit toHex hexNumber fromHex worked cutAgain replyOf
     answerOf entryNamed intervalList allSmall allZero durationOf endsAt existsDuration shown spellable weeksAlone durationFields extended fractionPart
-    longNumber numberFields presences count anyPresent lastIn numbers ofLast partAt wellMade Durations.natural Durations.readExtended durationInOctets endedBy
+    longNumber numberFields presences count anyPresent lastIn numbers ofLast partAt wellMade Durations.readExtended durationInOctets endedBy
     readAfter readFields readNumbers readPresences readTail fractionLength getDuration getEnd getNumber getPart getParts getPresent getTimes needless
     numberDigits putDuration putNumber putPart putParts putTimes readDuration renderDuration readDurationElement
 allRight [] = true

@@ -1,5 +1,5 @@
 -- The pieces of a text, one at a time.
-use mathlib.Core.Path.{_≡_, refl}
+use mathlib.Core.Path.{_≡_, refl, ap, _∙_}
 use mathlib.Core.Bool.{Bool, true, false}
 use mathlib.Core.List.{List, [], _∷_}
 use Prim.Native.Nat.{ℕ, suc, _+_, _-_, _<_, _≤_}
@@ -28,6 +28,20 @@ module _ (c : ℕ) (s : List ℕ) (i : ℕ) where
   pub span-end : length s ≤ i → spanTo c (drop i s) ≡ 0
   unfolding spanTo
   span-end h = rw (drop-of-length-le s h)
+
+-- Four octets more stand before the octet c where none of the next four is it.
+pub span-four : (c : ℕ) (s : List ℕ) (i : ℕ) → i + 3 < length s → (getD s i 0 ≡ c → ⊥) → (getD s (i + 1) 0 ≡ c → ⊥) →
+    (getD s (i + 2) 0 ≡ c → ⊥) →
+    (getD s (i + 3) 0 ≡ c → ⊥) →
+    spanTo c (drop i s) ≡ 4 + spanTo c (drop (i + 4) s)
+span-four c s i h e f g k =
+    let l = span-miss c s i (omega arith) e in
+    let m = next (i + 1) (i + 2) (omega arith) (omega arith) f in
+    let n = next (i + 2) (i + 3) (omega arith) (omega arith) g in
+    omega (arith, l, m, n, next (i + 3) (i + 4) (omega arith) h k)
+  where
+    next : (m n : ℕ) → m + 1 ≡ n → m < length s → (getD s m 0 ≡ c → ⊥) → spanTo c (drop m s) ≡ suc (spanTo c (drop n s))
+    next m n e h f = span-miss c s m h f ∙ ap (λ (o : ℕ). suc (spanTo c (drop o s))) e
 
 -- No more octets stand before the octet c than there are.
 pub span-le : (c : ℕ) (l : List ℕ) → spanTo c l ≤ length l

@@ -15,6 +15,9 @@ Inv-loop s from octet i₀ i = from + spanTo octet (drop from s) ≡ i + spanTo 
 abbrev μ-loop : tie.MeasureT-loop
 μ-loop s from octet i₀ i = length s - i
 
+skip-fours-requires : tie.Need-skip-fours-requires Inv-loop μ-loop
+skip-fours-requires c κs = search needs
+
 loop-holds : tie.Need-loop-holds Inv-loop μ-loop
 loop-holds c = search needs
 
@@ -24,7 +27,7 @@ shared-slice-read-if1 c = search needs
 returns : tie.Need-returns Inv-loop μ-loop
 returns c =
     let loop = c .before .before .before .loop in
-    let args = c .before .before .before .before .args in
+    let args = c .before .before .before .before .before .before .args in
     omega (arith, span-hit (args .octet) (args .s .now) (loop .i) (c .before .before .loop-test .taken) (c .if1 .taken))
 
 add-i : tie.Need-add-i Inv-loop μ-loop
@@ -36,11 +39,13 @@ loop-less c = search needs
 loop-again : tie.Need-loop-again Inv-loop μ-loop
 loop-again c =
     let loop = c .before .before .before .loop in
-    let args = c .before .before .before .before .args in
+    let args = c .before .before .before .before .before .before .args in
     omega (arith, span-miss (args .octet) (args .s .now) (loop .i) (c .before .before .loop-test .taken) (c .if1 .left))
 
 returns-2 : tie.Need-returns-2 Inv-loop μ-loop
-returns-2 c = omega (arith, span-end (c .before .before .args .octet) (c .before .before .args .s .now) (c .before .loop .i) (c .loop-test .left))
+returns-2 c =
+    let args = c .before .before .before .before .args in
+    omega (arith, span-end (args .octet) (args .s .now) (c .before .loop .i) (c .loop-test .left))
 
 pub find-spec : {M : Type 1} → statement M
 find-spec =
@@ -48,6 +53,7 @@ find-spec =
     (tie.spec
     Inv-loop
     μ-loop
+    skip-fours-requires
     loop-holds
     shared-slice-read-if1
     returns

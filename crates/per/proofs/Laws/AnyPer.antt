@@ -173,4 +173,4 @@ module _ (d : Duration) {packed : PackedDuration} (e : packed ≡ packedDuration
   -- The octets that carry its bits are its encoding.
   pub duration-octets : {n : ℕ} → n ≡ octetsFor (packed .bits) .count → take n (packed .octets) ≡ encodingOf YearRow.Year (AnyValue.Duration d)
   unfolding encodingOf
-  duration-octets h = duration-front d e h
+  duration-octets {n} h = duration-front d e h

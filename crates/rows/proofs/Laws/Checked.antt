@@ -28,12 +28,12 @@ use Rattle.types.specs.declared.types.Years.{Years}
 use Rattle.fields.specs.Bits.{bitsOf, numberIn, packed, octetsOf, unpacked}
 use Rattle.fields.specs.Integers.{half, within, fewest, twos, fromTwos}
 use Rattle.fields.specs.Fields.{binaryDigits, width, fieldBits, layout, fieldWidth, bitCount}
-use Rattle.fields.specs.Readings.{_>>=_, aRanged, aFree, require, readBits, readRanged, readFree, run}
+use Rattle.fields.specs.Readings.{_>>=_, aRanged, aFree, require, readBits, readRanged, readFree, run, natural}
 use Rattle.answers.proofs.Laws.Quoted.{hex}
 use Rattle.rows.specs.declared.YearRow.{YearRow}
 use Rattle.rows.specs.Fields.{yearRowOf, otherYear, choiceOfYear, yearFields, dayFields, dateFields, clockFields, longFraction, fractionFields}
 use Rattle.rows.specs.Fields.{hoursField, differenceFields, zoneFields, timeFields, fieldsOf}
-use Rattle.rows.specs.Readings.{readChoice, readYear, readDay, readDate, readClock, natural, readExtended, readFraction, readMinutes, differenceAt}
+use Rattle.rows.specs.Readings.{readChoice, readYear, readDay, readDate, readClock, readExtended, readFraction, readMinutes, differenceAt}
 use Rattle.rows.specs.Readings.{readZone, readTime, readValue, readOctets}
 
 -- Local time so far ahead of UTC, and so far behind it.

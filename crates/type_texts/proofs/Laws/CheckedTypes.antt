@@ -17,7 +17,7 @@ use Rattle.types.specs.Rows.{timeNumber, sameRow, sameRows}
 use Rattle.lists.specs.Words.{placeFrom, fractionNumber, pairOf}
 use Rattle.lists.specs.Lists.{addPair, addPairs, datedList, timedList, intervalList, complete, completed, listOf}
 use Rattle.type_texts.specs.TypeTexts.{listsOf, sameButYear, yearFamily, oneRow, equalLists, allOf, distinct, usable, member, yearsOf, timeAt, listType}
-use Rattle.type_texts.specs.TypeTexts.{joined, typeOf}
+use Rattle.type_texts.specs.TypeTexts.{pointType, joined, typeOf}
 use Rattle.types.specs.declared.types.Window.{Window}
 use Rattle.types.specs.declared.types.Limits.{Limits}
 use Rattle.types.specs.declared.types.TypeRead.{TypeRead}
@@ -261,7 +261,7 @@ textsRight [] = true
 textsRight (text s limits number ∷ l) = eqb (typeNumber (typeOf limits (bytes s))) number && textsRight l
 
 texts-checked : textsRight texts ≡ true
-unfolding texts textsRight typeOf joined listType timeAt yearsOf member usable distinct allOf equalLists oneRow yearFamily sameButYear listsOf listOf
+unfolding texts textsRight typeOf joined listType pointType timeAt yearsOf member usable distinct allOf equalLists oneRow yearFamily sameButYear listsOf listOf
     completed complete timedList datedList intervalList addPairs addPair splitOn pairOf fractionNumber placeFrom limitedTo placed zoneAt clockAt dateAt eqList
 texts-checked = refl
 
@@ -353,8 +353,8 @@ pairsRight (limited s m t n expected ∷ l) = alike (typeOf m (bytes s)) (typeOf
 
 pairs-checked : pairsRight pairs ≡ true
 unfolding pairs pairsRight alike timeNumber sameRow sameRows typeOf joined listType timeAt yearsOf member usable distinct allOf equalLists oneRow yearFamily
-    sameButYear listsOf listOf completed complete timedList datedList intervalList addPairs addPair splitOn pairOf fractionNumber placeFrom limitedTo placed
-    zoneAt clockAt dateAt eqList
+    pointType sameButYear listsOf listOf completed complete timedList datedList intervalList addPairs addPair splitOn pairOf fractionNumber placeFrom
+    limitedTo placed zoneAt clockAt dateAt eqList
 pairs-checked = refl
 
 -- a type, and the number of its fraction digits
@@ -386,5 +386,6 @@ digitsRight (count s n ∷ l) = has (typeOf noLimits (bytes s)) n && digitsRight
 
 digits-checked : digitsRight digits ≡ true
 unfolding digits digitsRight has typeOf joined listType timeAt yearsOf member usable distinct allOf equalLists oneRow yearFamily sameButYear listsOf listOf
-    completed complete timedList datedList intervalList addPairs addPair splitOn pairOf fractionNumber placeFrom limitedTo placed zoneAt clockAt dateAt eqList
+    pointType completed complete timedList datedList intervalList addPairs addPair splitOn pairOf fractionNumber placeFrom limitedTo placed zoneAt clockAt
+    dateAt eqList
 digits-checked = refl

@@ -7,9 +7,9 @@ use lib.Dec.{eqb}
 use borrow.Author.Tests.{eq-eqb, ne-eqb, eqb-true, eqb-false}
 use Rattle.octets.specs.Octets.{bytes}
 use Rattle.types.specs.AnyTypes.{limitedTo}
-use Rattle.lists.specs.Lists.{basicIn, dateIn, yearIn, timeIn, zoneIn, intervalIn, listOf}
+use Rattle.lists.specs.Lists.{basicIn, dateIn, yearIn, timeIn, zoneIn, intervalIn, listOf, datedList, timedList}
 use Rattle.type_texts.specs.TypeTexts.{listsOf, sameButYear, yearFamily, oneRow, equalLists, allOf, distinct, usable, member, yearsOf, listType, joined}
-use Rattle.type_texts.specs.TypeTexts.{typeOf}
+use Rattle.type_texts.specs.TypeTexts.{pointType, typeOf}
 use Rattle.type_texts.specs.Written.{joinWith}
 use Rattle.types.specs.declared.types.Limits.{Limits}
 use Rattle.types.specs.declared.types.TypeRead.{TypeRead}
@@ -54,7 +54,7 @@ years-swap x y = rw (member-swap 1 x y, member-swap 2 x y, member-swap 3 x y, me
 
 type-swap : (a b : Settings) → sameButYear a b ≡ true →
     listType a (yearIn a ∷ yearIn b ∷ []) ≡ listType b (yearIn b ∷ yearIn a ∷ [])
-unfolding sameButYear listType
+unfolding sameButYear listType pointType datedList timedList
 type-swap a b e =
     let p = five-hold (eqb (basicIn a) (basicIn b)) (eqb (dateIn a) (dateIn b)) (eqb (timeIn a) (timeIn b)) (eqb (zoneIn a) (zoneIn b))
     (eqb (intervalIn a) (intervalIn b)) e in

@@ -1,6 +1,6 @@
 -- The lists of a type's text, by the places of its bars.
-use mathlib.Core.Path.{_≡_, refl}
-use mathlib.Core.Bool.{Bool, true, false, _||_, cond}
+use mathlib.Core.Path.{_≡_}
+use mathlib.Core.Bool.{Bool, true, false, cond}
 use mathlib.Core.List.{List, [], _∷_, map}
 use Prim.Native.Nat.{ℕ, suc, _+_, _-_, _<_, _≤_}
 use native.Mathlib.Omega.{arith}
@@ -10,10 +10,8 @@ use lib.Seq.{take-all}
 use borrow.Author.Tests.{lt-leb}
 use Rattle.octets.specs.Pieces.{withFirst, splitOn, spanTo}
 use Rattle.octets.proofs.Laws.Pieces.{span-le, split-one, split-more}
-use Rattle.lists.specs.Lists.{basicIn, datedList, listOf, timedList}
-use Rattle.type_texts.specs.TypeTexts.{joined, listType, listsOf, pointType}
-use Rattle.types.specs.declared.types.AnyType.{AnyType}
-use Rattle.types.specs.declared.types.«Type».{«Type»}
+use Rattle.lists.specs.Lists.{listOf}
+use Rattle.type_texts.specs.TypeTexts.{listsOf, joined}
 use Rattle.types.specs.declared.types.Limits.{Limits}
 use Rattle.types.specs.declared.types.TypeRead.{TypeRead}
 use Rattle.lists.specs.declared.lists.Settings.{Settings}
@@ -63,17 +61,3 @@ module _ (l : List ℕ) (bar next : ℕ) (h : bar ≡ 0 + spanTo 124 l) (k : bar
         front,
         split-one 124 (drop (bar + 1) l) (omega (arith, span-le 124 (drop (bar + 1) l))),
       )
-
--- A list with a date or a time is a point's, and any other is one of durations.
-pub pointed : (s : Settings) (ys : List ℕ) → listType s ys ≡ cond (datedList s || timedList s) (AnyType.Point (pointType s ys)) AnyType.ListedDuration
-unfolding listType pointType datedList timedList
-pointed s ys = go _ _ _ (eqb (basicIn s) 1) (eqb (basicIn s) 2) (eqb (basicIn s) 3)
-  where
-    go : (x y z : «Type») (a b c : Bool)
-        → cond a (AnyType.Point x) (cond b (AnyType.Point y) (cond c (AnyType.Point z) AnyType.ListedDuration))
-        ≡ cond ((a || c) || (b || c)) (AnyType.Point (cond a x (cond b y z))) AnyType.ListedDuration
-    go x y z true b c = refl
-    go x y z false true true = refl
-    go x y z false true false = refl
-    go x y z false false true = refl
-    go x y z false false false = refl

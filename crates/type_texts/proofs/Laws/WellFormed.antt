@@ -17,7 +17,7 @@ use Rattle.types.specs.Types.{DATE, TIME-OF-DAY, DATE-TIME, placed, restricted,
 use Rattle.lists.specs.Words.{placeIn, yearWords, clockWords, fractionWords, withDigits, fractionNumber, firstNumber, pairOf}
 use Rattle.lists.specs.Lists.{settings, noneYet, refusedList, addPair, addPairs, basicIn, dateIn, yearIn, timeIn, zoneIn, datedList, timedList, presentIf}
 use Rattle.lists.specs.Lists.{intervalIn, intervalList, complete, completed, listOf}
-use Rattle.type_texts.specs.TypeTexts.{listsOf, allOf, usable, distinct, oneRow, member, yearsOf, timeAt, listType, joined, typeOf}
+use Rattle.type_texts.specs.TypeTexts.{listsOf, allOf, usable, distinct, oneRow, member, yearsOf, timeAt, listType, pointType, joined, typeOf}
 use Rattle.types.specs.declared.types.AnyType.{AnyType}
 use Rattle.types.specs.declared.types.Years.{Years}
 use Rattle.types.specs.declared.types.Parts.{Parts}
@@ -157,7 +157,7 @@ unfolding timeAt
 digits-few t z h = le-leb (t / 10) 9 (omega arith)
 
 list-well-formed : (s : Settings) (ys : List ℕ) → Sound s → wellFormed (listType s (yearIn s ∷ ys)) ≡ true
-unfolding listType datedList
+unfolding listType pointType timedList datedList
 list-well-formed s ys h = go (eqb (basicIn s) 1) (eqb (basicIn s) 2) (eqb (basicIn s) 3) refl refl refl where
   year : datedList s ≡ true → someYear (yearsOf (yearIn s ∷ ys)) ≡ true
   year e = some-year (yearIn s) ys (dated-year s (h .all) e) (h .bounds .year)
@@ -167,7 +167,8 @@ list-well-formed s ys h = go (eqb (basicIn s) 1) (eqb (basicIn s) 2) (eqb (basic
 
   go : (a b c : Bool) → eqb (basicIn s) 1 ≡ a → eqb (basicIn s) 2 ≡ b → eqb (basicIn s) 3 ≡ c → wellFormed (listType s (yearIn s ∷ ys)) ≡ true
   go true b c e f g = rw (e, year (rw e))
-  go false true c e f g = rw (e, f, few)
+  go false true true e f g = rw (e, f, g, few)
+  go false true false e f g = rw (e, f, g, few)
   go false false true e f g = rw (e, f, g, year (rw (e, g)), few)
   go false false false e f g = rw (e, f, g)
 

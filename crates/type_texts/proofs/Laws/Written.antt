@@ -15,7 +15,7 @@ use Rattle.types.specs.AnyTypes.{limitedTo}
 use Rattle.lists.specs.Words.{placeFrom, fractionNumber, pair, pairOf}
 use Rattle.lists.specs.Lists.{settings, noneYet, addPair, addPairs, datedList, timedList, intervalList, complete, completed, listOf}
 use Rattle.type_texts.specs.TypeTexts.{listsOf, sameButYear, yearFamily, oneRow, equalLists, allOf, distinct, usable, member, yearsOf, timeAt, listType}
-use Rattle.type_texts.specs.TypeTexts.{joined, typeOf}
+use Rattle.type_texts.specs.TypeTexts.{pointType, joined, typeOf}
 use Rattle.type_texts.specs.Written.{dateWord, YearSetting, basic, proleptic, negative, five, yearWord, clockWord, timeWord, zoneWord, datePairs}
 use Rattle.type_texts.specs.Written.{timePairs, dateTimePairs, durationPairs, namedYears, joinWith, typeText, Arranged, end, more}
 use Rattle.texts.specs.declared.forms.DateForm.{DateForm}
@@ -351,14 +351,14 @@ self n = eq-eqb n n refl
 
 one-joined : (limits : Limits) (b d t z i y : ℕ) (k : Bool) → placedAt limits b ≡ k →
     joined limits (listAt b d t z i y ∷ []) ≡ whereSo k (limitedTo limits (listType (listAt b d t z i 0) (y ∷ [])))
-unfolding joined allOf usable distinct datedList timedList listType
+unfolding joined allOf usable distinct datedList timedList listType pointType
 one-joined limits b d t z i y true e = rw e
 one-joined limits b d t z i y false e = rw e
 
 two-joined : (limits : Limits) (b d t z i y x : ℕ) (k : Bool) → placedAt limits b ≡ k →
     eqb y x ≡ false → eqb (yearFamily y) (yearFamily x) ≡ true →
     joined limits (listAt b d t z i y ∷ listAt b d t z i x ∷ []) ≡ whereSo k (limitedTo limits (listType (listAt b d t z i 0) (y ∷ x ∷ [])))
-unfolding joined allOf usable distinct datedList timedList listType equalLists oneRow sameButYear
+unfolding joined allOf usable distinct datedList timedList listType pointType equalLists oneRow sameButYear
 two-joined limits b d t z i y x true e n f = rw (e, self b, self d, self t, self z, self i, n, f)
 two-joined limits b d t z i y x false e n f = rw e
 
@@ -446,14 +446,14 @@ module _ (limits : Limits) where
   -- The lists of a type of dates make that type.
   pub date-joined : (d : DateType) → someYear (d .years) ≡ true →
       joined limits (map (dateList (d .form)) (namedYears (d .years))) ≡ limitedTo limits (AnyType.Point (listed (Parts.Date d)))
-  unfolding listType
+  unfolding listType pointType datedList timedList
   date-joined d h =
       years-joined limits 1 (dateNumber (d .form)) 0 0 _ refl (d .years) h
       ∙ rw (date-setting (d .form) .back, years-back (d .years) h) (limited-again limits (Parts.Date d))
 
   -- The list of a type of times makes that type.
   pub time-joined : (t : TimeType) → joined limits (timeList (t .form) ∷ []) ≡ limitedTo limits (AnyType.Point (listed (Parts.Time t)))
-  unfolding listType
+  unfolding listType pointType datedList timedList
   time-joined t =
       one-joined limits 2 0 (timeCode (t .form .clock) (t .form .digits)) (zoneNumber (t .form .zone)) 0 0 _ refl
       ∙ rw (time-back (t .form)) (limited-again limits (Parts.Time t))
@@ -461,12 +461,12 @@ module _ (limits : Limits) where
   -- The lists of a type of dates with times make that type.
   pub date-time-joined : (d : DateType) (t : TimeType) → someYear (d .years) ≡ true →
       joined limits (map (dateTimeList (d .form) (t .form)) (namedYears (d .years))) ≡ limitedTo limits (AnyType.Point (listed (Parts.DateTime d t)))
-  unfolding listType
+  unfolding listType pointType datedList timedList
   date-time-joined d t h =
       years-joined limits 3 (dateNumber (d .form)) (timeCode (t .form .clock) (t .form .digits)) (zoneNumber (t .form .zone)) _ refl (d .years) h
       ∙ rw (date-setting (d .form) .back, years-back (d .years) h, time-back (t .form)) (limited-again limits (Parts.DateTime d t))
 
   -- The list of durations makes its type.
   pub duration-joined : joined limits (durationList ∷ []) ≡ limitedTo limits AnyType.ListedDuration
-  unfolding listType limitedTo
+  unfolding listType pointType datedList timedList limitedTo
   duration-joined = one-joined limits 4 0 0 0 1 0 _ refl ∙ twice (placed limits false false) _

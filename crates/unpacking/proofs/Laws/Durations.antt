@@ -20,6 +20,7 @@ use Rattle.durations.specs.Parts.{count, anyPresent, lastIn, ofLast, numbers, p
 use Rattle.durations.specs.Durations.{durationOf}
 use Rattle.durations.specs.Fields.{roots}
 use Rattle.durations.specs.Readings.{readNumbers, Tail, tail, readTail, withTail, endedBy, readFields, durationInOctets}
+use Rattle.durations.proofs.Laws.Found.{some-ended}
 use Rattle.texts.specs.declared.parts.Fraction.{Fraction}
 use Rattle.unpacking.specs.Durations.{bitsIn, afterPresences, durationFrom}
 use Rattle.unpacking.proofs.Laws.Rows.{required, not-required}
@@ -91,16 +92,6 @@ module _ (s : List ℕ) (o : ℕ) (is : o ≡ getD s 0 0) (some-octet : 0 < leng
       duration-made w = with-tail ∙ ap ofFound (required (wellMade ps) (durationOf (endedBy x ps)) t w)
 
 -- ---- the duration of components
-
-present-ended : (t : Tail) (b : Bool) (p : Part) → isPresent (cond b p (withTail t p)) ≡ isPresent p
-present-ended t true p = refl
-present-ended t false absent = refl
-present-ended t false (present n d f) = refl
-
-some-ended : (t : Tail) (ps : List Part) → anyPresent (endedBy t ps) ≡ anyPresent ps
-unfolding anyPresent endedBy
-some-ended t [] = refl
-some-ended t (p ∷ ps) = rw (some-ended t ps, present-ended t (anyPresent ps) p)
 
 last-ended : (t : Tail) (ps : List Part) → lastIn (endedBy t ps) ≡ lastIn ps
 unfolding lastIn endedBy

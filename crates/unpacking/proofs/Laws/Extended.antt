@@ -7,7 +7,6 @@ use Prim.Native.Nat.{ℕ, zero, suc, _+_, _-_, _*_, _^_, _≤_, _<_}
 use native.Mathlib.Numerals.{add-one}
 use native.Mathlib.Omega.{arith}
 use lib.Dec.{leb, ltb}
-use lib.IntN.{pos, negℤ}
 use lib.ListN.{length, drop, getD, length-append}
 use borrow.Author.Tests.{lt-ltb, le-ltb, le-leb, lt-leb, leb-true, leb-false}
 use Rattle.octets.specs.Found.{Found, found, nothing, onward}
@@ -15,14 +14,14 @@ use Rattle.octets.proofs.Laws.Found.{nothing-not, found-value, found-rest}
 use Rattle.fields.specs.Bits.{BitString, bitsOf, bit, numberIn}
 use Rattle.fields.specs.Fields.{width, binaryDigits}
 use Rattle.fields.specs.Integers.{twos}
-use Rattle.fields.specs.Readings.{Reading, give, _>>=_, aRanged, aFree, require, readBits, readRanged, readFree, run}
+use Rattle.fields.specs.Readings.{Reading, give, _>>=_, aRanged, aFree, aNatural, require, readBits, readRanged, readFree, run}
 use Rattle.fields.proofs.Laws.Bits.{length-bits, number-lt}
 use Rattle.fields.proofs.Laws.Fields.{read-free-only}
 use Rattle.fields.proofs.Laws.Readings.{run-bind}
 use Rattle.durations.specs.Parts.{count}
 use Rattle.durations.specs.Fields.{roots}
-use Rattle.durations.specs.Readings.{natural, readAfter, readExtended, Tail, tail, readTail}
-use Rattle.unpacking.specs.Durations.{readNatural, readPlace}
+use Rattle.durations.specs.Readings.{readAfter, readExtended, Tail, tail, readTail}
+use Rattle.unpacking.specs.Durations.{readPlace}
 use Rattle.unpacking.proofs.Laws.Rows.{required, not-required}
 use Rattle.unpacking.proofs.Laws.Steps.{run-give}
 
@@ -91,11 +90,11 @@ free-short s h = go (readFree s) refl
         absurd (omega (arith, o .some, length-bits 8 (o .octets), length-bits (8 * o .octets) (twos (o .octets) z)))
     go nothing e = refl
 
-natural-short : (s : BitString) → length s < 16 → run readNatural s ≡ nothing
+natural-short : (s : BitString) → length s < 16 → run aNatural s ≡ nothing
 unfolding run aFree _>>=_
 natural-short s h = rw (free-short s h)
 
-outside : (lowest r : ℕ) (s : BitString) → run (readAfter lowest r 1) s ≡ run readNatural s
+outside : (lowest r : ℕ) (s : BitString) → run (readAfter lowest r 1) s ≡ run aNatural s
 unfolding readAfter
 outside lowest r s = refl
 
@@ -139,10 +138,10 @@ module _ (lowest r w : ℕ) (e : w ≡ width r) (s : BitString) where
             first-of false u is ∙ after-inside u long ∙ rw (v, le-ltb n r l)
 
     -- The bit for "outside of the range".
-    pub extended-outside : 2 ^ w ≤ n → run (readExtended lowest r) s ≡ run readNatural (drop 1 s)
+    pub extended-outside : 2 ^ w ≤ n → run (readExtended lowest r) s ≡ run aNatural (drop 1 s)
     extended-outside k = let f = front w s n t h in go (f .first) (f .others) (f .is) (f .number)
       where
-        go : (b : Bool) (u : BitString) → s ≡ b ∷ u → n ≡ bit b * 2 ^ w + numberIn w u → run (readExtended lowest r) s ≡ run readNatural (drop 1 s)
+        go : (b : Bool) (u : BitString) → s ≡ b ∷ u → n ≡ bit b * 2 ^ w + numberIn w u → run (readExtended lowest r) s ≡ run aNatural (drop 1 s)
         go true u is number = first-of true u is ∙ outside lowest r u ∙ rw is
         go false u is number = absurd (omega (arith, number-lt w u))
 
@@ -192,17 +191,6 @@ root-widths (suc (suc (suc (suc zero)))) h = (omega arith, refl, omega arith)
 root-widths (suc (suc (suc (suc (suc zero))))) h = (omega arith, refl, omega arith)
 root-widths (suc (suc (suc (suc (suc (suc zero)))))) h = (omega arith, refl, omega arith)
 root-widths (suc (suc (suc (suc (suc (suc (suc i))))))) h = absurd (omega arith)
-
--- ---- a free integer that is not negative
-
-pub natural-some : (n : ℕ) (s : BitString) → run (natural (pos n)) s ≡ found n s
-unfolding natural run
-natural-some n s = refl
-
-pub negative-none : (n : ℕ) (s : BitString) → 1 ≤ n → run (natural (negℤ (pos n))) s ≡ nothing
-unfolding natural run
-negative-none zero s h = absurd (omega arith)
-negative-none (suc n) s h = refl
 
 -- ---- the fraction
 

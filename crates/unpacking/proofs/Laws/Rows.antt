@@ -4,12 +4,11 @@ use mathlib.Core.Bool.{Bool, true, false, false≢true}
 use Prim.Native.Nat.{ℕ, zero, suc, _^_, _≤_}
 use native.Mathlib.Omega.{arith}
 use lib.Dec.{ltb}
-use lib.IntN.{pos, negℤ}
 use Rattle.octets.specs.Found.{found, nothing}
 use Rattle.texts.specs.declared.forms.ClockForm.{ClockForm}
 use Rattle.fields.specs.Bits.{BitString}
-use Rattle.fields.specs.Readings.{give, _>>=_, aRanged, aFree, require, run}
-use Rattle.rows.specs.Readings.{readChoice, readClock, natural, readExtended, readFraction, readMinutes}
+use Rattle.fields.specs.Readings.{give, _>>=_, aRanged, aFree, aNatural, require, run}
+use Rattle.rows.specs.Readings.{readChoice, readClock, readExtended, readFraction, readMinutes}
 use Rattle.unpacking.specs.Steps.{afterHours}
 
 -- Choice 3 of a year, which is remainder, and the choices that no two bits make.
@@ -28,7 +27,7 @@ clock-hours ClockForm.HM = refl
 clock-hours ClockForm.HMS = refl
 
 -- What a bit says, where it is not 0.
-pub extended-free : (n : ℕ) → 1 ≤ n → readExtended n ≡ (aFree >>= natural)
+pub extended-free : (n : ℕ) → 1 ≤ n → readExtended n ≡ aNatural
 unfolding readExtended
 extended-free zero h = absurd (omega arith)
 extended-free (suc n) h = refl
@@ -43,16 +42,6 @@ pub fraction-some : (n : ℕ) → 1 ≤ n → readFraction n ≡ (aRanged 2 >>= 
 unfolding readFraction
 fraction-some zero h = absurd (omega arith)
 fraction-some (suc n) h = refl
-
--- A fraction's number, and a negative number, which is none.
-pub natural-some : (n : ℕ) (s : BitString) → run (natural (pos n)) s ≡ found n s
-unfolding natural run
-natural-some n s = refl
-
-pub negative-none : (n : ℕ) (s : BitString) → 1 ≤ n → run (natural (negℤ (pos n))) s ≡ nothing
-unfolding natural run
-negative-none zero s h = absurd (omega arith)
-negative-none (suc n) s h = refl
 
 -- A number that is tested.
 pub required : {A : Type 0} (t : Bool) (a : A) (s : BitString) → t ≡ true → run (require t (give a)) s ≡ found a s

@@ -56,11 +56,11 @@ returns-3 c =
 designator-requires : tie.Need-designator-requires
 designator-requires c κs = search needs
 
-cast-t12 : tie.Need-cast-t12
-cast-t12 c = search needs
+cast-t18 : tie.Need-cast-t18
+cast-t18 c = search needs
 
-add-t11 : tie.Need-add-t11
-add-t11 c = search needs
+add-t15 : tie.Need-add-t15
+add-t15 c = search needs
 
 returns-4 : tie.Need-returns-4
 returns-4 c =
@@ -86,6 +86,6 @@ component-of-spec =
     no-component-requires-3
     returns-3
     designator-requires
-    cast-t12
-    add-t11
+    cast-t18
+    add-t15
     returns-4)

@@ -1,7 +1,7 @@
 -- `type_text::limited_list` meets its contract: a point's list, or one of durations.
 use mathlib.Core.Path.{_∙_, sym}
 use borrow.Author.Tests.{not-false, not-true}
-use Rattle.type_texts.proofs.Laws.TypeTexts.{pointed}
+use Rattle.type_texts.specs.TypeTexts.{listType}
 use borrow.Author.Needs.{needs}
 use Rattle.settings.proofs.type_text.limited_list.Statement.{statement}
 use Rattle.settings.proofs.type_text.limited_list.Tie as tie
@@ -13,7 +13,8 @@ limited-requires : tie.Need-limited-requires
 limited-requires c κs = search needs
 
 returns : tie.Need-returns
-returns c = rw (pointed, sym (c .before .before .has-point .ensures) ∙ not-true _ (c .before .if1 .taken)) (c .limited .ensures)
+unfolding listType
+returns c = rw (sym (c .before .before .has-point .ensures) ∙ not-true _ (c .before .if1 .taken)) (c .limited .ensures)
 
 point-type-requires : tie.Need-point-type-requires
 point-type-requires c κs = search needs
@@ -22,9 +23,9 @@ limited-requires-2 : tie.Need-limited-requires-2
 limited-requires-2 c κs = search needs
 
 returns-2 : tie.Need-returns-2
+unfolding listType
 returns-2 c =
     rw (
-      pointed,
       sym (c .before .before .before .has-point .ensures) ∙ not-false _ (c .before .before .if1 .left),
       ← c .before .point-type .ensures,
     )

@@ -32,8 +32,8 @@ returns c =
     let enum-told2 = c .before .before .before .enum-told2 in
     (rw (enum-told2 .given .1) (sym (step (seen _) (aRanged 12) _ _ (c .before .before .ranged .ensures .0) (c .enum-told3 .given .1))), omega arith)
 
-add-t15 : tie.Need-add-t15
-add-t15 c = omega (arith, ap numberRead (c .before .month .given .1))
+add-t17 : tie.Need-add-t17
+add-t17 c = omega (arith, ap numberRead (c .before .month .given .1))
 
 enum-told-4 : tie.Need-enum-told-4
 enum-told-4 c = search needs
@@ -60,8 +60,8 @@ returns-2 c =
     let enum-told5 = c .before .before .before .enum-told5 in
     (rw (enum-told5 .given .1) (sym (step (seen _) (aRanged 366) _ _ (c .before .before .ranged2 .ensures .0) (c .enum-told6 .given .1))), omega arith)
 
-add-t19 : tie.Need-add-t19
-add-t19 c = omega (arith, ap numberRead (c .before .day .given .1))
+add-t25 : tie.Need-add-t25
+add-t25 c = omega (arith, ap numberRead (c .before .day .given .1))
 
 enum-told-7 : tie.Need-enum-told-7
 enum-told-7 c = search needs
@@ -82,8 +82,8 @@ returns-3 c =
     let enum-told7 = c .before .before .before .enum-told7 in
     (rw (enum-told7 .given .1) (sym (step (seen _) (aRanged 53) _ _ (c .before .before .ranged3 .ensures .0) (c .enum-told8 .given .1))), omega arith)
 
-add-t23 : tie.Need-add-t23
-add-t23 c = omega (arith, ap numberRead (c .before .week .given .1))
+add-t31 : tie.Need-add-t31
+add-t31 c = omega (arith, ap numberRead (c .before .week .given .1))
 
 enum-told-9 : tie.Need-enum-told-9
 enum-told-9 c = search needs
@@ -150,7 +150,7 @@ day-spec =
     enum-known-month
     enum-told-3
     returns
-    add-t15
+    add-t17
     enum-told-4
     month-and-day-requires
     enum-told-5
@@ -158,13 +158,13 @@ day-spec =
     enum-known-day
     enum-told-6
     returns-2
-    add-t19
+    add-t25
     enum-told-7
     ranged-requires-3
     enum-known-week
     enum-told-8
     returns-3
-    add-t23
+    add-t31
     enum-told-9
     week-and-weekday-requires
     returns-4

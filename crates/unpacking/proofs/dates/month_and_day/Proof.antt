@@ -44,11 +44,11 @@ returns-2 c =
       omega arith,
     )
 
-add-t11 : tie.Need-add-t11
-add-t11 c = omega (arith, ap numberRead (c .before .before .before .before .before .month .given .1))
+add-t15 : tie.Need-add-t15
+add-t15 c = omega (arith, ap numberRead (c .before .before .before .before .before .month .given .1))
 
-add-t12 : tie.Need-add-t12
-add-t12 c = omega (arith, ap numberRead (c .before .day .given .1))
+add-t16 : tie.Need-add-t16
+add-t16 c = omega (arith, ap numberRead (c .before .day .given .1))
 
 returns-3 : tie.Need-returns-3
 unfolding readDay
@@ -73,6 +73,6 @@ month-and-day-spec =
     enum-known-day
     enum-told-2
     returns-2
-    add-t11
-    add-t12
+    add-t15
+    add-t16
     returns-3)

@@ -20,8 +20,8 @@ returns : tie.Need-returns
 unfolding nearYear
 returns c = (sym (step (seen _) _ _ _ (c .before .before .ranged .ensures .0) (c .enum-told .given .1)), omega arith)
 
-add-t9 : tie.Need-add-t9
-add-t9 c = omega (arith, ap numberRead (c .before .number .given .1))
+add-t11 : tie.Need-add-t11
+add-t11 c = omega (arith, ap numberRead (c .before .number .given .1))
 
 returns-2 : tie.Need-returns-2
 unfolding nearYear
@@ -37,5 +37,5 @@ near-year-spec =
     enum-known-number
     enum-told
     returns
-    add-t9
+    add-t11
     returns-2)

@@ -4,9 +4,8 @@ use native.Mathlib.Omega.{arith}
 use lib.Seq.{drop-drop}
 use Rattle.octets.proofs.Laws.Found.{told}
 use Rattle.fields.specs.Bits.{unpacked}
-use Rattle.fields.specs.Readings.{run}
+use Rattle.fields.specs.Readings.{aNatural, run}
 use Rattle.unpacking.proofs.Laws.Extended.{extended-short, extended-inside, extended-above, extended-outside}
-use Rattle.unpacking.specs.Durations.{readNatural}
 use Rattle.unpacking.specs.Steps.{place, seen}
 use borrow.Author.Needs.{needs}
 use Rattle.unpacking.proofs.duration.extended.Statement.{statement}
@@ -33,8 +32,8 @@ returns c =
       omega arith,
     )
 
-add-t12 : tie.Need-add-t12
-add-t12 c = search needs
+add-t14 : tie.Need-add-t14
+add-t14 c = search needs
 
 returns-2 : tie.Need-returns-2
 returns-2 c =
@@ -75,7 +74,7 @@ returns-4 c =
     let k = rw (c .before .before .before .power .ensures) at (c .before .before .if2 .left) in
     let e = extended-outside (s .args .lowest) (s .args .range) (s .args .width .count) (s .pre .1 .1 .1 .0) _
     (told (seen _) (far .before .before .field .ensures .0) (far .number .given .1)) k in
-    (c .natural .ensures .0 ∙ sym (e ∙ ap (run readNatural) (drop-drop 1 (s .args .at .count) (unpacked (s .args .octets .now)))), omega arith)
+    (c .natural .ensures .0 ∙ sym (e ∙ ap (run aNatural) (drop-drop 1 (s .args .at .count) (unpacked (s .args .octets .now)))), omega arith)
 
 pub extended-spec : {M : Type 1} → statement M
 extended-spec =
@@ -86,7 +85,7 @@ extended-spec =
     enum-known-number
     enum-told
     returns
-    add-t12
+    add-t14
     returns-2
     cast-if2
     power-requires

@@ -32,8 +32,8 @@ returns-2 c =
     let e : 1 ≤ c .before .before .before .before .before .args .present = omega arith in
     rw (minutes-some _ e) (sym (step (seen _) (aRanged 59) _ _ (c .before .before .ranged .ensures .0) (c .enum-told .given .1)))
 
-add-t9 : tie.Need-add-t9
-add-t9 c = omega (arith, ap numberRead (c .before .number .given .1))
+add-t11 : tie.Need-add-t11
+add-t11 c = omega (arith, ap numberRead (c .before .number .given .1))
 
 returns-3 : tie.Need-returns-3
 returns-3 c =
@@ -50,5 +50,5 @@ minutes-spec =
     enum-known-number
     enum-told
     returns-2
-    add-t9
+    add-t11
     returns-3)

@@ -1,16 +1,15 @@
--- `duration::natural` meets its contract.
+-- `numbers::natural` meets its contract.
 use mathlib.Core.Path.{sym, ap, _∙_}
 use Prim.Native.Nat.{_≤_}
 use native.Mathlib.Omega.{arith}
-use Rattle.fields.specs.Readings.{aFree, run}
-use Rattle.durations.specs.Readings.{natural as readAs}
-use Rattle.unpacking.proofs.Laws.Extended.{natural-some, negative-none}
+use Rattle.fields.specs.Readings.{aFree, natural as readAs, run}
+use Rattle.fields.proofs.Laws.Readings.{natural-some, negative-none}
 use Rattle.unpacking.proofs.Laws.Steps.{step}
 use Rattle.unpacking.specs.Steps.{below, integerOf, integerPlace, rest, seenInteger, stepBelow}
 use Rattle.unpacking.specs.declared.numbers.Integer.{Integer}
 use borrow.Author.Needs.{needs}
-use Rattle.unpacking.proofs.duration.natural.Statement.{statement}
-use Rattle.unpacking.proofs.duration.natural.Tie as tie
+use Rattle.unpacking.proofs.numbers.natural.Statement.{statement}
+use Rattle.unpacking.proofs.numbers.natural.Tie as tie
 
 free-requires : tie.Need-free-requires
 free-requires c κs = search needs
