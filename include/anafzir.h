@@ -5,10 +5,12 @@
  * always returns, keeps no state, allocates nothing and writes to the room alone. Functions
  * may be called from several threads at once, each with its own room.
  *
- * A pointer points to as many octets as the length behind it says, and is not NULL, also
- * where the length is 0. The room does not overlap the type or the input.
+ * A pointer points to as many octets as the length behind it says. Where the length is 0 it
+ * is not looked at, and may be NULL. The room does not overlap the type or the input.
  *
- * Link with libcodec.a, which `rt staticlib codec` writes to target/staticlib/.
+ * Link with libanafzir (`pkg-config --cflags --libs anafzir` once it is installed), or with
+ * libcodec.a, which `rt staticlib codec` writes to target/staticlib/ and which has the four
+ * functions that encode and decode.
  */
 #ifndef ANAFZIR_H
 #define ANAFZIR_H
@@ -19,6 +21,12 @@
 #ifdef __cplusplus
 extern "C" {
 #endif
+
+/* The version of this header. Until 1.0.0 a new second number may change what is here. */
+#define ANAFZIR_VERSION "0.1.0"
+
+/* Room of so many octets is enough for every result, of every function. */
+#define ANAFZIR_ROOM 136
 
 /* What `number` of an outcome says: success, or why there is no result. Where several
  * reasons hold, the lowest number is given. */
@@ -51,8 +59,8 @@ enum {
      * where it fits without, or the filling is not zero; in DER there is a comma, or minutes 00 in
      * a difference; in a duration a component before the last is zero. */
     ANAFZIR_NOT_CANONICAL = 6,
-    /* All is well, and the room is shorter than the result. Room of 136 octets is always enough.
-     * A duration takes at most 72 octets as a text, 39 in PER and 74 in DER. */
+    /* All is well, and the room is shorter than the result. ANAFZIR_ROOM is always enough. A
+     * duration takes at most 72 octets as a text, 39 in PER and 74 in DER. */
     ANAFZIR_SHORT_ROOM = 7
 };
 
@@ -86,9 +94,62 @@ struct anafzir_outcome {
     size_t length;
 };
 
-/* A type is "DATE", "TIME-OF-DAY", "DATE-TIME" or "DURATION", or settings such as
- * "Basic=Date Date=YMD Year=Basic", or two such lists with `|` between them. The settings of a
- * duration are "Basic=Interval Interval-type=D", in either order and without a second list.
+/* A type is a name, a list of settings, or two lists with `|` between them. docs/TYPES.md has
+ * all of this with examples in PER and in DER, and what is not there.
+ *
+ * A list is pairs Property=Setting with one space between, in any order, each property once.
+ * It has Basic, and exactly the properties that its setting of Basic names here.
+ *
+ *   Setting            A text          What it is
+ *
+ *   Basic=Date         2006            a date, by Date and Year
+ *   Basic=Time         15              a time, by Time and Local-or-UTC
+ *   Basic=Date-Time    2006T15         both with a T between, by all four
+ *   Basic=Interval     P1Y6M           a duration, by Interval-type
+ *
+ *   Date=Y             2006            year
+ *   Date=YM            2006-06         year and month
+ *   Date=YMD           2006-06-13      year, month and day
+ *   Date=YD            2006-164        year and day of the year, 001 to 366
+ *   Date=YW            2006-W24        year and week, 01 to 53; week 01 has 4 January
+ *   Date=YWD           2006-W24-2      year, week and day, 1 (Monday) to 7
+ *
+ *   Year=Basic         2006            1582 to 9999
+ *   Year=Proleptic     1066            0000 to 1581
+ *   Year=Negative      -0044           -9999 to -0001
+ *   Year=L5            +12006          a sign and five digits, the first not 0
+ *
+ *   Time=H             15              hours, 00 to 24; at 24 all that follows is 0
+ *   Time=HM            15:27           and minutes, 00 to 59
+ *   Time=HMS           15:27:46        and seconds, 00 to 60
+ *   Time=HFn           15.5            hours with a fraction of exactly n digits, n from 1 to 9
+ *   Time=HMFn          15:27.75        the same of minutes
+ *   Time=HMSFn         15:27:46.500    the same of seconds
+ *
+ *   Local-or-UTC=L     15:27           local time
+ *   Local-or-UTC=Z     15:27Z          UTC
+ *   Local-or-UTC=LD    15:27+05:30     local time with its difference to UTC
+ *
+ *   Interval-type=D    P1Y6M           the duration by itself
+ *
+ *   Name               It stands for
+ *
+ *   DATE               Basic=Date Date=YMD Year=Basic
+ *   TIME-OF-DAY        Basic=Time Time=HMS Local-or-UTC=L
+ *   DATE-TIME          Basic=Date-Time Date=YMD Year=Basic Time=HMS Local-or-UTC=L
+ *   DURATION           Basic=Interval Interval-type=D
+ *
+ * A name has the texts and the PER of its settings, and a tag of its own in DER. Two lists
+ * differ in Year alone, as Basic and Proleptic or as Negative and L5. A name stands alone.
+ *
+ * Of the limits above, years have a place where there is a date, and no hour 24 where there
+ * is a time. A duration has a place for neither, and no type has one for counts.
+ *
+ * Every field of a date or a time has all its digits. A fraction stands behind a full stop or
+ * a comma. A difference is a sign, hours from 00 to 15 and, where there are any, minutes behind
+ * a colon; where it is zero, its sign is +. In the canonical text there is no comma, and no
+ * difference has minutes 00: "15:27:46,500" becomes "15:27:46.500", and "15:27+01:00" becomes
+ * "15:27+01".
  *
  * The text of a duration looks like "P1Y6M", "PT0.5S" or "P3W": a P, then years (Y), months (M)
  * and days (D), and behind a T hours (H), minutes (M) and seconds (S), those that there are, in
@@ -124,6 +185,11 @@ struct anafzir_outcome anafzir_der_decode(
     struct anafzir_limits limits,
     const uint8_t *input, size_t input_length,
     uint8_t *room, size_t room_length);
+
+/* A sentence in English for a number, for people to read: what it says, without the details that
+ * are above. It ends in 0, is never NULL and never changes. Any number is taken. This function is
+ * in libanafzir and not in libcodec.a; it is written in C, and tested and not proved. */
+const char *anafzir_message(uint32_t number);
 
 #ifdef __cplusplus
 }

@@ -1,6 +1,7 @@
 """Compares the documents with the repository. docs/PROMISES.md and the pages of docs/promises/ name every wrong program that is tried,
-and their counts of lines to believe are those of the files. Neither they nor the pages for contributors name anything that is not
-there, and no document links to what is not there. Prints each difference and exits 1, or prints nothing."""
+and their counts of lines to believe are those of the files. Each sentence of the rules that such a page quotes stands in
+docs/RULES.md. Neither they nor the pages for contributors name anything that is not there, and no document links to what is not
+there. Prints each difference and exits 1, or prints nothing."""
 
 import re
 import sys
@@ -11,6 +12,9 @@ ROOT = Path(__file__).resolve().parent.parent
 PAGES = [ROOT / "docs/PROMISES.md", *sorted((ROOT / "docs/promises").glob("*.md"))]
 GUIDES = [ROOT / "CONTRIBUTING.md", ROOT / "docs/CRATES.md", ROOT / "docs/TESTING.md"]
 LINKING = [*ROOT.glob("*.md"), *ROOT.glob("docs/**/*.md"), *ROOT.glob("vectors/*.md")]
+
+# what the pages quote from
+RULES = ROOT / "docs/RULES.md"
 
 # a wrong program has a file of its own, or a part of one
 PART = re.compile(r"^# (\w+): refused at ", re.M)
@@ -28,6 +32,12 @@ FENCED = re.compile(r"^```.*?^```$", re.M | re.S)
 SPAN = re.compile(r"`([^`\n]+)`")
 LINK = re.compile(r"\]\(([^)#\s]*)(?:#([\w-]+))?\)")
 
+# a quotation of the rules: a block, a point of a list that is nothing else, or what the first cell of a table's row begins with
+QUOTING = re.compile(r'^>.*(?:\n>.*)*|^ *- ".*"$|^\| "[^|]*', re.M)
+
+# behind a quotation: a form that the paper names for the place that it quotes, and so the paper's words too
+NAMED_FORM = re.compile(r"(?: \(02\))?: ")
+
 # a name, with the type, module or crate before it; a word that is made of several, as the names of definitions are
 NAME = re.compile(r"(?:[A-Za-z]\w*(?:::|\.))*([A-Za-z_]\w*(?:-\w+)*)")
 COMPOUND = re.compile(r"\b[a-z]+[A-Z]\w*")
@@ -38,7 +48,7 @@ WORD = re.compile(r"[A-Za-z_]\w*")
 PLACEHOLDER = re.compile(r"\b(?:NAME|MODULE|FUNCTION|FILE|OLD|\w+_N)\b|^target/")
 ELSEWHERE = {
     "get", "definition_", "C081F680", "HF0", "V", "Five", "requires", "ensures", "unfolding", "axiom", "stdin", "stdout", "rt", "tr",
-    "erlang-asn1",
+    "erlang-asn1", "make", "VERSION", "xargs",
 }
 
 
@@ -52,6 +62,8 @@ def names():
     """What there is to name: crates and modules, what sources define and use, and wrong programs."""
     found = {*ELSEWHERE, *wrong_programs(), *(crate.name for crate in (ROOT / "crates").iterdir())}
     found.update(*(re.findall(r"^[A-Z_\d]+(?= = )", file.read_text("utf-8"), re.M) for file in ROOT.glob("tests/*.py")))
+    for file in (*ROOT.glob("include/*.h"), *ROOT.glob("c/*.c"), ROOT / "Makefile"):
+        found |= set(WORD.findall(file.read_text("utf-8")))
     for file in ROOT.glob("crates/*/src/**/*.rt"):
         found |= {file.stem, *WORD.findall(re.sub(r"//.*", "", file.read_text("utf-8")))}
     for file in ROOT.glob("crates/*/proofs/**/*.antt"):
@@ -88,6 +100,27 @@ def lost_links(page):
             yield f"{path}#{heading}" if heading else path
 
 
+def plain(text):
+    """A text in one line, without the marks of a block."""
+    return " ".join(re.sub(r"^>", "", text, flags=re.M).split())
+
+
+def pieces(quotation):
+    """What a quotation has of the rules: its sentences, each in quotation marks of its own, in pieces where `..` cuts them. A
+    number before them and a remark behind them are the page's."""
+    _, first, text = plain(quotation).partition('"')
+    inner, _, behind = text.rpartition('"')
+    for sentence in (text if NAMED_FORM.match(behind) else inner).split('" "') if first else []:
+        yield from filter(None, map(str.strip, re.split(r"(?<!\S)\.\.(?!\S)", sentence)))
+
+
+def unruled(text, rules):
+    """The pieces that a page quotes and the rules do not have; a quotation without any is one itself."""
+    for quotation in QUOTING.findall(FENCED.sub("", text)):
+        found = list(pieces(quotation)) or [plain(quotation)]
+        yield from (piece for piece in found if piece not in rules)
+
+
 def lines(text):
     """How many lines there are that say something: no comment, no `use`, nothing empty."""
     return sum(1 for line in text.split("\n") if line.strip() and not re.match(r"\s*(--|use )", line))
@@ -119,7 +152,28 @@ def differences():
         absent = sorted({span for span in found if not is_there(span, known)})
         yield from (f"{page.relative_to(ROOT)}: there is no {span}" for span in absent)
     yield from (f"{page.relative_to(ROOT)}: there is no {link}" for page in LINKING for link in lost_links(page))
+    rules = plain(RULES.read_text("utf-8"))
+    quoted = ((page.relative_to(ROOT), piece) for page in PAGES for piece in unruled(texts[page], rules))
+    yield from (f"{page}: the rules do not have {piece}" for page, piece in quoted)
     yield from counts("\n".join(texts[page] for page in PAGES))
+
+
+def self_test_of_quotations():
+    """A quotation that the rules do not have is found, and one that they have is not."""
+    rules = plain('- A "b"\n  c. D e, f.\n> g\n- "h i" (02): j.\nK..3\n')
+    good = (
+        '> "A "b"\n> c." "D e, .. f."', '> 3: ".. b" c. ..", for texts', '> "c." (#1)', '> "h i" (02): j.', '> "K..3"',
+        '> "c." "h i" (02):\n> j.', '- "D e, f."', '  - "g"', '| "A "b" .. f." and more | "x" |', '- no "x" of these',
+        '```text\n> "x"\n```',
+    )
+    bad = {
+        '> "A "b"\n> d."': ['A "b" d.'], '> "A c."': ["A c."], '> "A .. c. .. e f."': ["e f."], '> "c." "x" "D"': ["x"],
+        '> "h i" (02): k.': ['h i" (02): k.'], '> "h i": j.': ['h i": j.'], "> x": ["x"], '> "x': ['"x'], '> ".."': ['".."'],
+        '- "D f."': ["D f."], '| "D f." | "c." |': ["D f."], '> "c."\n\n> "x"': ["x"], '> "K..\n> 3"': ["K.. 3"],
+    }
+    expected = dict.fromkeys(good, []) | bad
+    if {text: list(unruled(text, rules)) for text in expected} != expected:
+        sys.exit("promises.py does not find the quotations that it should")
 
 
 def self_test():
@@ -134,6 +188,7 @@ def self_test():
         page.write_text("# A b\n[](page.md) [](#a-b) [](http://c) [](none.md) [](#a-c)\n```text\n[](none.md)\n```\n", "utf-8")
         if list(lost_links(page)) != ["none.md", "#a-c"]:
             sys.exit("promises.py does not find the links that lead nowhere")
+    self_test_of_quotations()
 
 
 if __name__ == "__main__":

@@ -1,8 +1,7 @@
-"""Runs each example of the README: a block of sh with a block of text behind it, which is what the command must print; and
-has each block of Rattle proved as a crate over the library, which was just proved. Two run at a time: the blocks of Rattle and
-what builds the calendar's archive in a copy of the project, since rt keeps files for each crate that it looks at, and the others
-beside them. The archive is then put where the others are. Prints the first example that differs or is not proved and exits 1, or
-prints nothing."""
+"""Runs each example of the README in its order: a block of sh with a block of text behind it, which is what the command must print;
+has each block of Rattle proved as a crate over the library, which was just proved, in a copy of the project and beside the
+others, since rt keeps files for each crate that it looks at; and sees that each block of C is a file of examples/. Prints the
+first example that differs or is not proved and exits 1, or prints nothing."""
 
 import re
 import shutil
@@ -17,12 +16,12 @@ ROOT = Path(__file__).resolve().parent.parent
 EXAMPLE = re.compile(r"^```sh\n(.*?)^```\n+```text\n(.*?)^```", re.M | re.S)
 CODE = re.compile(r"^```rust\n(.*?)^```", re.M | re.S)
 ABOVE_CODEC = re.compile(r"^lines: (.*)$", re.M)
-IN_COPY = "rt staticlib calendar "
+BLOCK_OF_C = re.compile(r"^```c\n(.*?)^```", re.M | re.S)
 
 
 def copied(codes, folder):
     """Makes a copy of the project, with a crate more for each block of Rattle."""
-    for part in ("crates", "include", "examples", "target/rlib", "target/stamp"):
+    for part in ("crates", "target/rlib", "target/stamp"):
         shutil.copytree(ROOT / part, folder / part)
     crates = (ROOT / "crates.txt").read_text("utf-8")
     below = ABOVE_CODEC.search(crates).group(1)
@@ -49,6 +48,13 @@ def fault_of_example(folder, command, expected):
     return None
 
 
+def fault_of_file(code):
+    """That a block of C is no file of examples/, or nothing."""
+    if code not in [file.read_text("utf-8") for file in ROOT.glob("examples/*.c")]:
+        return f"README.md: no file of examples/:\n{code}"
+    return None
+
+
 def first_fault(tests):
     """The first fault that one of the tests finds, one after the other."""
     return next(filter(None, (test() for test in tests)), None)
@@ -56,19 +62,17 @@ def first_fault(tests):
 
 def main():
     text = (ROOT / "README.md").read_text("utf-8")
-    examples, codes = EXAMPLE.findall(text), CODE.findall(text)
-    if not codes or sum(IN_COPY in command for command, _ in examples) != 1:
-        sys.exit("README.md: no block of Rattle, or not one that builds the calendar's archive")
+    examples, codes, files = (block.findall(text) for block in (EXAMPLE, CODE, BLOCK_OF_C))
+    if not examples or not codes or not files:
+        sys.exit("README.md: no example in sh, in Rattle or in C")
     with tempfile.TemporaryDirectory() as name, ThreadPoolExecutor(2) as pool:
         folder = Path(name)
         copied(codes, folder)
         apart = [partial(fault_of_code, k, code, folder) for k, code in enumerate(codes)]
-        apart += [partial(fault_of_example, folder, *example) for example in examples if IN_COPY in example[0]]
-        others = [partial(fault_of_example, ROOT, *example) for example in examples if IN_COPY not in example[0]]
-        faults = list(filter(None, pool.map(first_fault, (others, apart))))
+        here = [partial(fault_of_file, code) for code in files] + [partial(fault_of_example, ROOT, *example) for example in examples]
+        faults = list(filter(None, pool.map(first_fault, (here, apart))))
         if faults:
             sys.exit(faults[0])
-        shutil.copy(folder / "target/staticlib/libcalendar.a", ROOT / "target/staticlib")
 
 
 if __name__ == "__main__":

@@ -1,4 +1,4 @@
--- `read_all` is safe: what is held is a line at most, and the replies lie in the output.
+-- `read_all` is safe: what is held is a line at most.
 use mathlib.Core.Path.{_≡_}
 use Prim.Native.Nat.{_≤_}
 use lib.ListN.{length}
@@ -8,8 +8,7 @@ use Rattle.convert.proofs.read_all.Statement.{statement}
 use Rattle.convert.proofs.read_all.Tie as tie
 
 abbrev Inv-loop : tie.InvT-loop
-Inv-loop input₀ output₀ state₀ turns₀ input output state turns = (state .held ≤ longestLine) × (state .used ≤ length output₀) × (length input ≡ length input₀)
-    × (length output ≡ length output₀)
+Inv-loop input₀ output₀ state₀ turns₀ input output state turns = (state .held ≤ longestLine) × (length input ≡ length input₀) × (length output ≡ length output₀)
 
 abbrev μ-loop : tie.MeasureT-loop
 μ-loop input₀ output₀ state₀ turns₀ input output state turns = turns
@@ -20,15 +19,6 @@ loop-holds c = search needs
 read-some-requires : tie.Need-read-some-requires Inv-loop μ-loop
 read-some-requires c κs = search needs
 
-same-length : tie.Need-same-length Inv-loop μ-loop
-same-length c = search needs
-
-same-length-2 : tie.Need-same-length-2 Inv-loop μ-loop
-same-length-2 c = search needs
-
-returns : tie.Need-returns Inv-loop μ-loop
-returns c = search needs
-
 sub-turns : tie.Need-sub-turns Inv-loop μ-loop
 sub-turns c = search needs
 
@@ -37,6 +27,15 @@ loop-less c = search needs
 
 loop-again : tie.Need-loop-again Inv-loop μ-loop
 loop-again c = search needs
+
+same-length : tie.Need-same-length Inv-loop μ-loop
+same-length c = search needs
+
+same-length-2 : tie.Need-same-length-2 Inv-loop μ-loop
+same-length-2 c = search needs
+
+returns : tie.Need-returns Inv-loop μ-loop
+returns c = search needs
 
 same-length-3 : tie.Need-same-length-3 Inv-loop μ-loop
 same-length-3 c = search needs
@@ -55,12 +54,12 @@ read-all-spec =
     μ-loop
     loop-holds
     read-some-requires
-    same-length
-    same-length-2
-    returns
     sub-turns
     loop-less
     loop-again
+    same-length
+    same-length-2
+    returns
     same-length-3
     same-length-4
     returns-2)

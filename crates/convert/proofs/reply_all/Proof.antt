@@ -7,10 +7,10 @@ use Rattle.convert.proofs.reply_all.Statement.{statement}
 use Rattle.convert.proofs.reply_all.Tie as tie
 
 abbrev Inv-loop : tie.InvT-loop
-Inv-loop text start output₀ used from₀ place₀ output from place = (from ≤ length text) × (place ≤ length output₀) × (length output ≡ length output₀)
+Inv-loop text start output₀ from₀ used₀ output from used = (from ≤ length text) × (used ≤ length output₀) × (length output ≡ length output₀)
 
 abbrev μ-loop : tie.MeasureT-loop
-μ-loop text start output₀ used from₀ place₀ output from place = length text - from
+μ-loop text start output₀ from₀ used₀ output from used = length text - from
 
 loop-holds : tie.Need-loop-holds Inv-loop μ-loop
 loop-holds c = search needs
@@ -36,6 +36,12 @@ part-put-reply-end c = search needs
 put-reply-requires : tie.Need-put-reply-requires Inv-loop μ-loop
 put-reply-requires c κs = search needs
 
+same-length-2 : tie.Need-same-length-2 Inv-loop μ-loop
+same-length-2 c = search needs
+
+returns-2 : tie.Need-returns-2 Inv-loop μ-loop
+returns-2 c = search needs
+
 add-from : tie.Need-add-from Inv-loop μ-loop
 add-from c = search needs
 
@@ -45,11 +51,11 @@ loop-less c = search needs
 loop-again : tie.Need-loop-again Inv-loop μ-loop
 loop-again c = search needs
 
-same-length-2 : tie.Need-same-length-2 Inv-loop μ-loop
-same-length-2 c = search needs
+same-length-3 : tie.Need-same-length-3 Inv-loop μ-loop
+same-length-3 c = search needs
 
-returns-2 : tie.Need-returns-2 Inv-loop μ-loop
-returns-2 c = search needs
+returns-3 : tie.Need-returns-3 Inv-loop μ-loop
+returns-3 c = search needs
 
 pub reply-all-spec : {M : Type 1} → statement M
 reply-all-spec =
@@ -65,8 +71,10 @@ reply-all-spec =
     part-put-reply-start
     part-put-reply-end
     put-reply-requires
+    same-length-2
+    returns-2
     add-from
     loop-less
     loop-again
-    same-length-2
-    returns-2)
+    same-length-3
+    returns-3)
