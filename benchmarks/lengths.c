@@ -17,8 +17,8 @@ static const char *const VALUES[][2] = {
     {"DATE-TIME", "2006-06-13T15:27:46"},
     {"DATE", "1748-12-31"},
     {"Basic=Time Time=HMSF9 Local-or-UTC=LD", "15:27:46.123456789+05:30"},
-    {"Basic=Date-Time Date=YMD Year=L5 Time=HMSF3 Local-or-UTC=LD", "+32768-12-31T23:59:60.999+01"},
-    {"Basic=Date-Time Date=YMD Year=Basic Time=HMSF9 Local-or-UTC=LD", "1748-12-31T23:59:60.999999999-09:30"},
+    {"Basic=Date-Time Date=YMD Year=L5 Time=HMSF3 Local-or-UTC=LD", "+32768-12-31T23:59:59.999+01"},
+    {"Basic=Date-Time Date=YMD Year=Basic Time=HMSF9 Local-or-UTC=LD", "1748-12-31T23:59:59.999999999-09:30"},
 };
 
 static uint64_t sum;

@@ -23,7 +23,7 @@ extern "C" {
 #endif
 
 /* The version of this header. Until 1.0.0 a new second number may change what is here. */
-#define ANAFZIR_VERSION "0.1.0"
+#define ANAFZIR_VERSION "0.2.0"
 
 /* Room of so many octets is enough for every result, of every function. */
 #define ANAFZIR_ROOM 136
@@ -48,7 +48,8 @@ enum {
      * nine, no component, or weeks beside another one; in PER also a negative number, or a
      * fraction too large for its digits. */
     ANAFZIR_BAD_FORM = 3,
-    /* It looks right, and there is no such date, time or difference: 30 February, 24:00:01. */
+    /* It looks right, and there is no such date, time or difference: 30 February, 24:00:01,
+     * 12:34:60Z. */
     ANAFZIR_NO_SUCH_VALUE = 4,
     /* The value exists, and the type does not have it: another Year setting, a year outside the
      * lowest and highest, hour 24 where it is excluded. Every duration exists, and both types of
@@ -150,6 +151,10 @@ struct anafzir_outcome {
  * a colon; where it is zero, its sign is +. In the canonical text there is no comma, and no
  * difference has minutes 00: "15:27:46,500" becomes "15:27:46.500", and "15:27+01:00" becomes
  * "15:27+01".
+ *
+ * Second 60 is a leap second, at the end of 23:59 UTC: with Z it exists at 23:59 alone, and with
+ * a difference where the time less the difference is 23:59, around the day, as in
+ * 05:29:60+05:30. A local time may have it in any minute.
  *
  * The text of a duration looks like "P1Y6M", "PT0.5S" or "P3W": a P, then years (Y), months (M)
  * and days (D), and behind a T hours (H), minutes (M) and seconds (S), those that there are, in

@@ -1,5 +1,9 @@
 """Checks coding_lines.py against hand-written replies, and that its lines ask for all."""
 
+import itertools
+
+import coding_lines
+import value_lines
 from checks import INTERVAL_D, agree
 from coding_lines import all_lines, reply
 
@@ -44,6 +48,25 @@ LINES = (
     (b"e1*;DURATION;P1Y6M", b"1"),
     (b"d8*;DURATION;C004C0", b"1"),
     (b"u9a;Basic=Interval Interval-type=D;0E03503144", b"1"),
+    # #102: 5 bits for hours, 6 for minutes and for seconds, and 12 for a difference with minutes; 4 before 5, 6 and 7
+    (b"e0*;Basic=Time Time=HMS Local-or-UTC=LD;05:29:60+05:30", b"0 29 2BBE68E8"),
+    (b"d0*;Basic=Time Time=HMS Local-or-UTC=LD;2BBE68E8", b"0 29 05:29:60+05:30"),
+    (b"d0*;Basic=Time Time=HMS Local-or-UTC=LD;2BBE68E9", b"6"),
+    (b"d0a;Basic=Time Time=HMS Local-or-UTC=LD;2BBE68E8", b"7"),
+    (b"e0*;Basic=Time Time=HMS Local-or-UTC=LD;05:30:60+05:30", b"4"),
+    (b"d0*;Basic=Time Time=HMS Local-or-UTC=LD;2BDE68E8", b"4"),
+    (b"d0*;Basic=Time Time=HMS Local-or-UTC=LD;2BDE68E9", b"4"),
+    (b"d0a;Basic=Time Time=HMS Local-or-UTC=LD;2BDE68E8", b"4"),
+    (b"t0*;Basic=Time Time=HMS Local-or-UTC=Z;23:59:60Z", b"0 0 0E0932333A35393A36305A"),
+    (b"u0*;Basic=Time Time=HMS Local-or-UTC=Z;0E0932333A35393A36305A", b"0 0 23:59:60Z"),
+    (b"u0*;Basic=Time Time=HMS Local-or-UTC=Z;0E0932333A35393A36305A00", b"6"),
+    (b"t0a;Basic=Time Time=HMS Local-or-UTC=Z;12:34:60Z", b"4"),
+    (b"u0*;Basic=Time Time=HMS Local-or-UTC=Z;0E0931323A33343A36305A", b"4"),
+    (b"u0a;Basic=Time Time=HMS Local-or-UTC=Z;0E0931323A33343A36305A00", b"4"),
+    (b"e9*;Basic=Date-Time Date=YMD Year=Basic Time=HMS Local-or-UTC=Z;2011-12-31T12:34:60Z", b"4"),
+    (b"e9*;Basic=Date-Time Date=YMD Year=Basic Time=HMS Local-or-UTC=Z;2011-12-31T23:59:60Z", b"5"),
+    (b"e0*;TIME-OF-DAY;12:34:60", b"0 17 645E00"),
+    (b"d0*;TIME-OF-DAY;645E00", b"0 17 12:34:60"),
     # no questions
     (b"u0*;DATE;1F1F08323030363036313", b"?"),
     (b"u0*;DATE;2006-06-13", b"?"),
@@ -72,6 +95,31 @@ FIRST_WORDS_OF_DURATIONS = {
 }
 
 
+# 1 and 2 are of types, and 7 of rooms, which the texts have not
+FIRST_WORDS_OF_SECOND_60 = {
+    b"e": {b"0", b"3", b"4", b"5"},
+    b"t": {b"0", b"3", b"4", b"5"},
+    b"d": {b"0", b"3", b"4", b"5", b"6", b"7"},
+    b"u": {b"0", b"3", b"4", b"5", b"6", b"7"},
+}
+
+
+def check_good_texts():
+    """That what stands for a value is one of its type: the sample, the cross table's texts, and times of every form."""
+    for type_text, text in itertools.chain(coding_lines.sample(), coding_lines.writers()):
+        agree(reply(coding_lines.encode_line(type_text, text))[:2], b"0 ", "good text", type_text, text)
+    for each in itertools.chain(value_lines.good_times(), value_lines.good_date_times()):
+        agree(value_lines.reply(each)[:2], b"0 ", "good text", each)
+
+
+def check_second_60():
+    """That the lines on second 60 ask for each number that a work can give there."""
+    lines = list(coding_lines.second_60())
+    lines += itertools.chain(coding_lines.in_der(lines), coding_lines.causes_at_second_60())
+    found = {work: {reply(each).split(b" ")[0] for each in lines if each[:1] == work} for work in FIRST_WORDS}
+    agree(found, FIRST_WORDS_OF_SECOND_60, "replies on second 60")
+
+
 def check_lines():
     """That the lines ask for each number that a work can give."""
     lines = all_lines()
@@ -90,6 +138,8 @@ def main():
     """Ends with a message at the first disagreement; prints nothing when there is none."""
     for given, expected in LINES:
         agree(reply(given), expected, given)
+    check_good_texts()
+    check_second_60()
     check_lines()
 
 

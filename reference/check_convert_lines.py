@@ -1,7 +1,7 @@
 """Checks convert_lines.py against document 01's example and hand-written replies, and that its lines ask for all."""
 
 from checks import INTERVAL_D, agree
-from convert_lines import all_lines, replies, reply
+from convert_lines import SAMPLE, all_lines, line, replies, reply, second_60
 
 # all that is read, all that is written
 WHOLE = (
@@ -106,6 +106,39 @@ LINES = (
     (b"unper;DURATION;800400", b"6"),
     (b"under;DURATION;1F22043059364D", b"6"),
     (b"under;DURATION;1F220554302C3553", b"6"),
+    # #102: "with Z, second 60 is accepted only at 23:59"
+    (b"per;Basic=Time Time=HMS Local-or-UTC=Z;23:59:60Z", b"0 BF7E00"),
+    (b"der;Basic=Time Time=HMS Local-or-UTC=Z;23:59:60Z", b"0 0E0932333A35393A36305A"),
+    (b"unper;Basic=Time Time=HMS Local-or-UTC=Z;BF7E00", b"0 23:59:60Z"),
+    (b"under;Basic=Time Time=HMS Local-or-UTC=Z;0E0932333A35393A36305A", b"0 23:59:60Z"),
+    (b"per;Basic=Time Time=HMS Local-or-UTC=Z;12:34:60Z", b"4"),
+    (b"der;Basic=Time Time=HMS Local-or-UTC=Z;12:34:60Z", b"4"),
+    (b"unper;Basic=Time Time=HMS Local-or-UTC=Z;645E00", b"4"),
+    (b"under;Basic=Time Time=HMS Local-or-UTC=Z;0E0931323A33343A36305A", b"4"),
+    # "with a difference, only where local time less the difference, around the day, is 23:59"
+    (b"per;Basic=Time Time=HMS Local-or-UTC=LD;05:29:60+05:30", b"0 2BBE68E8"),
+    (b"unper;Basic=Time Time=HMS Local-or-UTC=LD;2BBE68E8", b"0 05:29:60+05:30"),
+    (b"per;Basic=Time Time=HMS Local-or-UTC=LD;05:30:60+05:30", b"4"),
+    (b"unper;Basic=Time Time=HMS Local-or-UTC=LD;2BDE68E8", b"4"),
+    (b"per;Basic=Time Time=HMS Local-or-UTC=LD;00:59:60+01:00", b"0 077E20"),
+    (b"der;Basic=Time Time=HMS Local-or-UTC=LD;18:59:60-05:00", b"0 0E0B31383A35393A36302D3035"),
+    (b"unper;Basic=Time Time=HMS Local-or-UTC=LD;977E14", b"0 18:59:60-05"),
+    (b"unper;Basic=Time Time=HMS Local-or-UTC=LD;BF7E14", b"4"),
+    (b"der;Basic=Time Time=HMS Local-or-UTC=LD;23:59:60-05", b"4"),
+    (b"der;Basic=Time Time=HMS Local-or-UTC=LD;23:59:60-00", b"4"),
+    # "for a local time without one we can't know and keep accepting it"
+    (b"per;TIME-OF-DAY;12:34:60", b"0 645E00"),
+    (b"under;TIME-OF-DAY;1F2006313233343630", b"0 12:34:60"),
+    # 4 before 6: filling not zero, octets left over, comma, `:00`; and before 5
+    (b"unper;Basic=Time Time=HMS Local-or-UTC=Z;645E01", b"4"),
+    (b"unper;Basic=Time Time=HMS Local-or-UTC=Z;645E0000", b"4"),
+    (b"under;Basic=Time Time=HMS Local-or-UTC=Z;0E0931323A33343A36305A00", b"4"),
+    (b"under;Basic=Time Time=HMSF1 Local-or-UTC=Z;0E0B31323A33343A36302C395A", b"4"),
+    (b"under;Basic=Time Time=HMSF1 Local-or-UTC=Z;0E0B32333A35393A36302C395A", b"6"),
+    (b"under;Basic=Time Time=HMS Local-or-UTC=LD;0E0E32333A35393A36302D30353A3030", b"4"),
+    (b"under;Basic=Time Time=HMS Local-or-UTC=LD;0E0E31383A35393A36302D30353A3030", b"6"),
+    (b"per;Basic=Date-Time Date=Y Year=Basic Time=HMS Local-or-UTC=Z;1066T12:34:60Z", b"4"),
+    (b"per;Basic=Date-Time Date=Y Year=Basic Time=HMS Local-or-UTC=Z;1066T23:59:60Z", b"5"),
     # "fewer than two semicolons"
     (b"per", b"?"),
     (b"per;DATE", b"?"),
@@ -168,6 +201,17 @@ FIRST_WORDS_OF_DURATIONS = {
 }
 
 
+# 1 and 2 are of types
+FIRST_WORDS_OF_SECOND_60 = {work: words - {b"1", b"2", b"?"} for work, words in FIRST_WORDS.items()}
+
+
+def check_second_60():
+    """That the lines on second 60 ask for each number that a work can give there."""
+    lines = list(second_60())
+    found = {work: {reply(each).split(b" ")[0] for each in lines if each.startswith(work + b";")} for work in FIRST_WORDS}
+    agree(found, FIRST_WORDS_OF_SECOND_60, "replies on second 60")
+
+
 def check_durations(lines):
     """That the lines on durations ask for each number that a work can give there."""
     found = {work: set() for work in FIRST_WORDS_OF_DURATIONS}
@@ -201,6 +245,9 @@ def main():
         agree(replies(given), expected, given[:60])
     for given, expected in LINES:
         agree(reply(given), expected, given[:60], len(given))
+    for type_text, text in SAMPLE:
+        agree(reply(line(b"per", type_text, text))[:2], b"0 ", "sample", type_text, text)
+    check_second_60()
     check_lines()
 
 

@@ -1,19 +1,20 @@
-"""Checks der.py against hand-written cases from document 01's sentences and request #101, and against the vectors of an
-outside tool."""
+"""Checks der.py against hand-written cases from document 01's sentences and requests #101 and #102, and against the
+vectors of an outside tool."""
 
 import itertools
 
 import der
 from checks import BOTH_LIMITS, EMPTY_WINDOW, NO_HOUR_24, ROOM, YEARS_2000_TO_2010, agree, check_refused, check_value
-from checks import INTERVAL_D, LONGEST_DURATION
-from checks import H_L, HF1_L, HM_LD, HM_Z, HMF1_LD, HMS_L, HMSF3_L, YMD_T_HMS_L, YW_T_HMF1_LD
+from checks import INTERVAL_D, LONGEST_DURATION, SECOND_60, second_60_with_all_differences, zones_at_second_60
+from checks import H_L, HF1_L, HM_LD, HM_Z, HMF1_LD, HMS_L, HMS_LD, HMS_Z, HMSF1_Z, HMSF3_L, YW_T_HMF1_LD
+from checks import YMD_T_HMS_L, YMD_T_HMS_LD, YMD_T_HMS_Z
 from checks import Y_BASIC, Y_L5, Y_NEGATIVE, Y_PROLEPTIC, YD_BASIC, YM_BASIC, YMD_BASIC, YMD_PROLEPTIC, YW_BASIC
 from checks import YWD_BASIC
 from coding_lines import sample
 from elements import der_vectors
 from settings import NO_LIMITS
 from value_lines import DATES, DATE_TAILS, NAMES, TIMES, YEAR_CHOICES, ZONES
-from value_lines import date_time_type, date_type, time_text, time_type
+from value_lines import date_time_type, date_type, last_fields, time_text, time_type
 
 # limits, type, text, octets; both ways, with a room of exactly the result and of one octet less
 VALUES = (
@@ -56,6 +57,12 @@ VALUES = (
     (NO_LIMITS, HMF1_LD, b"15:27,5-01:00", "0E 0A 31 35 3A 32 37 2E 35 2D 30 31"),
     (NO_LIMITS, YW_T_HMF1_LD, b"-0044-W11T15:27,5-01:00",
      "0E 14 2D 30 30 34 34 2D 57 31 31 54 31 35 3A 32 37 2E 35 2D 30 31"),
+    # #102: "for a local time without one we can't know and keep accepting it"; with Z, and with a difference
+    (NO_LIMITS, b"TIME-OF-DAY", b"12:34:60", "1F 20 06 31 32 33 34 36 30"),
+    (NO_LIMITS, b"DATE-TIME", b"2006-06-13T12:34:60", "1F 21 0E 32 30 30 36 30 36 31 33 31 32 33 34 36 30"),
+    (NO_LIMITS, HMSF1_Z, b"23:59:60,9Z", "0E 0B 32 33 3A 35 39 3A 36 30 2E 39 5A"),
+    (NO_LIMITS, HMS_LD, b"00:59:60+01:00", "0E 0B 30 30 3A 35 39 3A 36 30 2B 30 31"),
+    (NO_LIMITS, HMS_LD, b"23:59:60+00:00", "0E 0B 32 33 3A 35 39 3A 36 30 2B 30 30"),
     # a type with restrictions has the tag and the contents of the type without them
     (YEARS_2000_TO_2010, b"DATE", b"2006-06-13", "1F 1F 08 32 30 30 36 30 36 31 33"),
     (NO_HOUR_24, b"TIME-OF-DAY", b"15:27:46", "1F 20 06 31 35 32 37 34 36"),
@@ -105,6 +112,9 @@ REFUSED_TEXTS = (
     (NO_LIMITS, HM_LD, b"15:27-00", ROOM, 4),
     (NO_LIMITS, HM_LD, b"15:27-00:30", ROOM, 4),
     (NO_LIMITS, HM_LD, b"15:27+16", ROOM, 4),
+    (NO_LIMITS, HMS_LD, b"23:59:60-00", ROOM, 4),
+    (NO_LIMITS, HMSF1_Z, b"12:34:60,9Z", ROOM, 4),
+    (NO_LIMITS, HMS_LD, b"22:59:60+01:00", ROOM, 4),
     # "exists, but not in the type: a year of no Year setting that the type names, year window, hour 24"
     (NO_LIMITS, b"DATE", b"1581-12-31", ROOM, 5),
     (NO_LIMITS, b"DATE", b"-0044-03-15", ROOM, 5),
@@ -326,6 +336,38 @@ REFUSED_OCTETS = (
     (NO_LIMITS, b"DATE", b"\x1F\x1F\x0815811231", 0, 5),
     (NO_LIMITS, b"DATE", b"\x1F\x1F\x0820060613\x00", 0, 6),
     (NO_LIMITS, HMSF3_L, b"\x0E\x0C15:27:46,500", 0, 6),
+    # #102: 3 before 4, of a zone of another form and of a length above the octets that follow
+    (NO_LIMITS, HMS_Z, b"\x0E\x0812:34:60", ROOM, 3),
+    (NO_LIMITS, HMS_LD, b"\x0E\x0912:34:60Z", ROOM, 3),
+    (NO_LIMITS, HMS_Z, b"\x0E\x0A12:34:60Z", ROOM, 3),
+    # there is no such difference, and no such time
+    (NO_LIMITS, HMS_LD, b"\x0E\x0B23:59:60-00", ROOM, 4),
+    (NO_LIMITS, HMS_LD, b"\x0E\x0E23:29:60-00:30", ROOM, 4),
+    (NO_LIMITS, HMS_LD, b"\x0E\x0B15:59:60+16", ROOM, 4),
+    (NO_LIMITS, HMS_Z, b"\x0E\x0923:59:61Z", ROOM, 4),
+    # 4 with 5, and 5: the year window, the Year setting, hour 24
+    (YEARS_2000_TO_2010, YMD_T_HMS_Z, b"\x0E\x142011-12-31T12:34:60Z", ROOM, 4),
+    (YEARS_2000_TO_2010, YMD_T_HMS_Z, b"\x0E\x142011-12-31T23:59:60Z", ROOM, 5),
+    (BOTH_LIMITS, YMD_T_HMS_LD, b"\x0E\x192011-12-31T23:59:60+05:30", ROOM, 4),
+    (BOTH_LIMITS, YMD_T_HMS_LD, b"\x0E\x192011-12-31T05:29:60+05:30", ROOM, 5),
+    (NO_LIMITS, YMD_T_HMS_Z, b"\x0E\x141066-10-14T12:34:60Z", ROOM, 4),
+    (NO_LIMITS, YMD_T_HMS_Z, b"\x0E\x141066-10-14T23:59:60Z", ROOM, 5),
+    (NO_HOUR_24, HMS_Z, b"\x0E\x0924:00:60Z", ROOM, 4),
+    (NO_HOUR_24, HMS_Z, b"\x0E\x0924:00:00Z", ROOM, 5),
+    (NO_HOUR_24, HMS_Z, b"\x0E\x0912:34:60Z", ROOM, 4),
+    # 4 with 6, and 6: comma, `:00`, octets left over
+    (NO_LIMITS, HMSF1_Z, b"\x0E\x0B12:34:60,9Z", ROOM, 4),
+    (NO_LIMITS, HMSF1_Z, b"\x0E\x0B23:59:60,9Z", ROOM, 6),
+    (NO_LIMITS, HMS_LD, b"\x0E\x0E22:59:60+01:00", ROOM, 4),
+    (NO_LIMITS, HMS_LD, b"\x0E\x0E00:59:60+01:00", ROOM, 6),
+    (NO_LIMITS, HMS_LD, b"\x0E\x0E23:59:60-00:00", ROOM, 4),
+    (NO_LIMITS, HMS_LD, b"\x0E\x0E23:59:60+00:00", ROOM, 6),
+    (NO_LIMITS, HMS_Z, b"\x0E\x0912:34:60Z\x00", ROOM, 4),
+    (NO_LIMITS, HMS_Z, b"\x0E\x0923:59:60Z\x00", ROOM, 6),
+    (NO_LIMITS, HMS_LD, b"\x0E\x0B23:59:60-05:00", ROOM, 4),
+    (NO_LIMITS, HMS_LD, b"\x0E\x0B18:59:60-05:00", ROOM, 6),
+    # 4 with 7
+    (NO_LIMITS, HMS_Z, b"\x0E\x0912:34:60Z", 0, 4),
     # durations: 1 and 2 before all others
     (NO_HOUR_24, b"DURATION", b"\x1F\x22\x041Y6M", ROOM, 1),
     (YEARS_2000_TO_2010, INTERVAL_D, b"\x0E\x05P1Y6M\x00", 0, 1),
@@ -398,7 +440,7 @@ DURATIONS = (b"P1Y6M", b"PT0.5S", b"P5W", b"P10DT20M0S")
 # a year of each setting with the most octets
 LONGEST_YEARS = {b"Basic": b"2006", b"Proleptic": b"1066", b"Negative": b"-0044", b"L5": b"-12006"}
 
-# `-12006-06-13T23:59:60.999999999+15:59`
+# `-12006-06-13T15:58:60.999999999+15:59`
 LONGEST_CONTENTS = 37
 
 
@@ -407,7 +449,7 @@ def longest_texts():
     dates = [(date, years, max((LONGEST_YEARS[year] for year in years), key=len) + DATE_TAILS[date])
              for date, years in itertools.product(DATES, YEAR_CHOICES)]
     zone_ends = {b"L": b"", b"Z": b"Z", b"LD": b"+15:59"}
-    times = [(time, zone, time_text(time, (b"23", b"59", b"60"), b"9", zone_ends[zone]))
+    times = [(time, zone, time_text(time, last_fields(time, zone_ends[zone]), b"9", zone_ends[zone]))
              for time, zone in itertools.product(TIMES, ZONES)]
     yield from ((date_type(date, *years), text) for date, years, text in dates)
     yield from ((time_type(time, zone), text) for time, zone, text in times)
@@ -428,12 +470,27 @@ def check_lengths():
     check_value(der, NO_LIMITS, b"DURATION", text, b"\x1F\x22\x47" + text[1:], 0)
 
 
+def check_second_60():
+    """#102 in contents, which are the canonical text: what the text has, both ways and whatever the room."""
+    cases = [(type_text, text, number) for type_text, text, _, number in SECOND_60]
+    cases += [(HMS_LD, text, number) for _, _, _, text, number in second_60_with_all_differences()]
+    for type_text, text, number in cases:
+        octets = b"\x0E" + bytes([len(text)]) + text
+        if number == 0:
+            check_value(der, NO_LIMITS, type_text, text, octets, 0)
+            continue
+        for (work, given), room in itertools.product(((der.encode, text), (der.decode, octets)), (ROOM, 0)):
+            check_refused(work, NO_LIMITS, type_text, given, room, number)
+
+
 def check_vectors():
     """The outside tool's vectors both ways, of each name and of the most octets."""
     vectors = list(der_vectors())
     lengths = {octets[1] for type_text, _, octets in vectors if type_text not in NAMES}
     agree(len(vectors) >= 600 and LONGEST_CONTENTS in lengths, True, "vectors are there")
     agree({type_text for type_text, _, _ in vectors} >= {*NAMES, b"DURATION", INTERVAL_D}, True, "names are there")
+    zones = zones_at_second_60(text for _, text, _ in vectors)
+    agree(zones, {b"", b"Z", b"+", b"-"}, "vectors of second 60 are there")
     for type_text, text, octets in vectors:
         check_value(der, NO_LIMITS, type_text, text, octets, 0)
 
@@ -482,6 +539,7 @@ def main():
         check_refused(der.encode, limits, type_text, text, room, number)
     for limits, type_text, octets, room, number in REFUSED_OCTETS:
         check_refused(der.decode, limits, type_text, octets, room, number)
+    check_second_60()
     check_lengths()
     check_vectors()
     for type_text, text in itertools.islice(sample(), 0, None, 2):

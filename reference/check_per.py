@@ -1,13 +1,14 @@
-"""Checks per.py against "Checked values" and hand-written cases from document 01's sentences and request #101, and the
-reading of durations against the writing of all texts."""
+"""Checks per.py against "Checked values" and hand-written cases from document 01's sentences and requests #101 and #102,
+and the reading of durations against the writing of all texts."""
 
 import itertools
 
 import per
 from bits import fill
 from checks import BOTH_LIMITS, INTERVAL_D, LONGEST_DURATION, NO_HOUR_24, ROOM, YEARS_2000_TO_2010, agree
-from checks import check_refused, check_value
-from checks import H_L, H_LD, H_Z, HF1_L, HF2_L, HF2_LD, HF4_L, HMSF3_L, HMSF4_L
+from checks import SECOND_60, check_refused, check_value, second_60_with_all_differences
+from checks import H_L, H_LD, H_Z, HF1_L, HF2_L, HF2_LD, HF4_L, HMS_LD, HMS_Z, HMSF1_Z, HMSF2_LD, HMSF3_L, HMSF4_L
+from checks import YMD_T_HMS_LD, YMD_T_HMS_Z
 from checks import Y_BASIC, Y_L5, Y_NEGATIVE, Y_PROLEPTIC, YD_BASIC, YMD_PROLEPTIC, YW_BASIC, YWD_BASIC
 from settings import NO_LIMITS
 
@@ -81,6 +82,8 @@ REFUSED_TEXTS = (
     (NO_LIMITS, YWD_BASIC, b"2006-W24-8", ROOM, 4),
     (NO_LIMITS, H_L, b"25", ROOM, 4),
     (NO_LIMITS, H_LD, b"15-00", ROOM, 4),
+    (NO_LIMITS, HMS_LD, b"23:59:60-00", ROOM, 4),
+    (NO_LIMITS, HMSF1_Z, b"12:34:60,9Z", ROOM, 4),
     # "exists, but not in the type: a year of no Year setting that the type names, year window, hour 24"
     (NO_LIMITS, Y_BASIC, b"-0001", ROOM, 5),
     (YEARS_2000_TO_2010, b"DATE", b"2011-01-01", ROOM, 5),
@@ -158,6 +161,49 @@ REFUSED_OCTETS = (
     (NO_LIMITS, b"DATE", "C0 81 F6 87 80", ROOM, 4),
     (NO_LIMITS, Y_PROLEPTIC, "C0 81 F6 80", ROOM, 5),
     (NO_LIMITS, b"DATE", "05 59", 0, 6),
+)
+
+# limits, type, bits, number: second 60 with other causes; the bits are those of the fields, as in SECOND_60
+BITS_AT_SECOND_60 = (
+    # "a field's bits above its range" is 3, and 60 is in it: second 61, minute 60 and hour 25
+    (NO_LIMITS, HMS_Z, "10111 111011 111101", 3),
+    (NO_LIMITS, HMS_Z, "01100 111100 111100", 3),
+    (NO_LIMITS, HMS_Z, "11001 100010 111100", 3),
+    # difference minutes 60, a fraction of two digits, and an end inside the seconds and inside the difference
+    (NO_LIMITS, HMS_LD, "01100 100010 111100 1 10100 111011", 3),
+    (NO_LIMITS, HMSF1_Z, "01100 100010 111100 0 0000001010", 3),
+    (NO_LIMITS, HMS_LD, "01100 100010 11110", 3),
+    (NO_LIMITS, HMS_LD, "01100 100010 111100 1 10100 0", 3),
+    # difference 16, which there isn't, after 15:59:60; 24:00:60
+    (NO_LIMITS, HMS_LD, "01111 111011 111100 0 11111", 4),
+    (NO_LIMITS, HMS_Z, "11000 000000 111100", 4),
+    # 4 with 5, and 5: the year 2011, the year 1066 after choice 3, hour 24
+    (YEARS_2000_TO_2010, YMD_T_HMS_Z, "00 0110 1011 11110 01100 100010 111100", 4),
+    (YEARS_2000_TO_2010, YMD_T_HMS_Z, "00 0110 1011 11110 10111 111011 111100", 5),
+    (BOTH_LIMITS, YMD_T_HMS_LD, "00 0110 1011 11110 10111 111011 111100 1 10100 011101", 4),
+    (BOTH_LIMITS, YMD_T_HMS_LD, "00 0110 1011 11110 00101 011101 111100 1 10100 011101", 5),
+    (NO_LIMITS, YMD_T_HMS_Z, "11 00000010 00000100 00101010 1011 11110 01100 100010 111100", 4),
+    (NO_LIMITS, YMD_T_HMS_Z, "11 00000010 00000100 00101010 1011 11110 10111 111011 111100", 5),
+    (NO_HOUR_24, HMS_Z, "11000 000000 111100", 4),
+    (NO_HOUR_24, HMS_Z, "11000 000000 000000", 5),
+    (NO_HOUR_24, HMS_Z, "01100 100010 111100", 4),
+    # 4 with 6, and 6: filling not zero
+    (NO_LIMITS, HMS_Z, "01100 100010 111100 0000001", 4),
+    (NO_LIMITS, HMS_Z, "01100 100010 111100 1000000", 4),
+    (NO_LIMITS, HMS_Z, "10111 111011 111100 0000001", 6),
+    (NO_LIMITS, HMS_LD, "10111 111011 111100 0 01010 1", 4),
+    (NO_LIMITS, HMS_LD, "10010 111011 111100 0 01010 1", 6),
+    # octets left over
+    (NO_LIMITS, HMS_Z, "01100 100010 111100 0000000 00000000", 4),
+    (NO_LIMITS, HMS_Z, "10111 111011 111100 0000000 00000000", 6),
+    # the fraction 50 after a 1 bit
+    (NO_LIMITS, HMSF2_LD, "10111 111011 111100 1 00000001 00110010 0 01010", 4),
+    (NO_LIMITS, HMSF2_LD, "10010 111011 111100 1 00000001 00110010 0 01010", 6),
+    # the year 2006 after choice 3, and 1066 in three octets
+    (NO_LIMITS, YMD_T_HMS_Z, "11 00000010 00000111 11010110 1011 11110 01100 100010 111100", 4),
+    (NO_LIMITS, YMD_T_HMS_Z, "11 00000010 00000111 11010110 1011 11110 10111 111011 111100", 6),
+    (NO_LIMITS, YMD_T_HMS_Z, "11 00000011 00000000 00000100 00101010 1011 11110 01100 100010 111100", 4),
+    (NO_LIMITS, YMD_T_HMS_Z, "11 00000011 00000000 00000100 00101010 1011 11110 10111 111011 111100", 5),
 )
 
 # text, octets, bit count; both ways, under the name DURATION and under its settings. By 28 bis.6.1 eight bits come
@@ -339,6 +385,30 @@ def check_durations():
     check_short_durations()
 
 
+def check_case(type_text, text, bits, number):
+    """A text and the bits of its fields: the same both ways, or the number both ways, whatever the room."""
+    if number == 0:
+        check_value(per, NO_LIMITS, type_text, text, fill(bits), len(bits))
+        return
+    for work, given in ((per.encode, text), (per.decode, fill(bits))):
+        check_refused(work, NO_LIMITS, type_text, given, ROOM, number)
+        check_refused(work, NO_LIMITS, type_text, given, 0, number)
+
+
+def check_second_60():
+    """#102 in bits: "a field's bits above its range" is 3, and this is 4."""
+    for type_text, text, bits, number in SECOND_60:
+        check_case(type_text, text, bits.replace(" ", ""), number)
+    for difference, hours, minutes, text, number in second_60_with_all_differences():
+        ahead = 15 - difference.hours if difference.sign == b"-" else 15 + difference.hours
+        bits = "{:05b}{:06b}111100{:d}{:05b}".format(hours, minutes, difference.minutes > 0, ahead)
+        bits += "{:06b}".format(difference.minutes - 1) if difference.minutes else ""
+        check_case(HMS_LD, text, bits, number)
+    for limits, type_text, bits, number in BITS_AT_SECOND_60:
+        for room in (ROOM, 0):
+            check_refused(per.decode, limits, type_text, fill(bits.replace(" ", "")), room, number)
+
+
 def main():
     """Ends with a message at the first disagreement; prints nothing when there is none."""
     for type_text, text, octets, bits in VALUES:
@@ -347,6 +417,7 @@ def main():
         check_refused(per.encode, limits, type_text, text, room, number)
     for limits, type_text, octets, room, number in REFUSED_OCTETS:
         check_refused(per.decode, limits, type_text, bytes.fromhex(octets), room, number)
+    check_second_60()
     check_durations()
 
 

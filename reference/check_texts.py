@@ -1,16 +1,18 @@
 """Checks settings.py, texts.py and durations.py against hand-written cases from document 01's sentences, "Checked
-values" and request #101, and durations also against 34 bis.3.6 and 11.9 d as patterns."""
+values" and requests #101 and #102, durations also against 34 bis.3.6 and 11.9 d as patterns, and second 60 against
+Python's own time zones in every minute."""
 
 import itertools
 import re
 
 from checks import BOTH_LIMITS, EMPTY_WINDOW, INTERVAL_D, LONGEST_DURATION, NO_HOUR_24, YEARS_2000_TO_2010, agree
-from checks import H_L, HF1_L, HM_LD, HM_Z, HMS_L, HMSF3_L, HMSF4_L, YMD_T_HMS_L, YW_T_HM_LD
+from checks import H_L, HF1_L, HM_LD, HM_Z, HMS_L, HMS_LD, HMS_Z, HMSF1_Z, HMSF3_L, HMSF4_L, YW_T_HM_LD
+from checks import SECOND_60, YMD_T_HMS_L, YMD_T_HMS_Z, all_differences, at_23_59_utc, second_60_with_all_differences
 from checks import Y_BASIC, Y_L5, Y_NEGATIVE, Y_PROLEPTIC, YD_BASIC, YMD_PROLEPTIC, YW_BASIC, YWD_BASIC
 from durations import canonical, read_duration
 from octets import Octets
 from settings import NO_LIMITS, fraction_digits, is_refused, read_type, same_rows
-from texts import judge, read_text
+from texts import judge, read_text, second_60_can_be
 
 # limits, type, text, number, canonical text
 TEXTS = (
@@ -81,9 +83,35 @@ TEXTS = (
     # "at 24 all smaller fields and the fraction are 0"
     (NO_LIMITS, HF1_L, b"24.0", 0, b"24.0"),
     (NO_LIMITS, HF1_L, b"24.1", 4, None),
-    # "Seconds 0 to 60, second 60 in any minute."
+    # #102: "for a local time without one we can't know and keep accepting it"; "the case 23:59:60 of TIME-OF-DAY stands"
     (NO_LIMITS, b"TIME-OF-DAY", b"00:00:60", 0, b"00:00:60"),
+    (NO_LIMITS, b"TIME-OF-DAY", b"12:34:60", 0, b"12:34:60"),
+    (NO_LIMITS, b"DATE-TIME", b"2006-06-13T12:34:60", 0, b"2006-06-13T12:34:60"),
     (NO_LIMITS, b"TIME-OF-DAY", b"00:00:61", 4, None),
+    (NO_LIMITS, HMS_Z, b"23:59:61Z", 4, None),
+    (NO_LIMITS, HMS_Z, b"24:00:60Z", 4, None),
+    # a comma and `:00` change nothing
+    (NO_LIMITS, HMSF1_Z, b"23:59:60,9Z", 0, b"23:59:60.9Z"),
+    (NO_LIMITS, HMSF1_Z, b"12:34:60,9Z", 4, None),
+    (NO_LIMITS, HMS_LD, b"00:59:60+01:00", 0, b"00:59:60+01"),
+    (NO_LIMITS, HMS_LD, b"22:59:60+01:00", 4, None),
+    # there is no such difference, also where local time less it would be 23:59
+    (NO_LIMITS, HMS_LD, b"23:59:60-00", 4, None),
+    (NO_LIMITS, HMS_LD, b"23:59:60-00:00", 4, None),
+    (NO_LIMITS, HMS_LD, b"23:29:60-00:30", 4, None),
+    (NO_LIMITS, HMS_LD, b"15:59:60+16", 4, None),
+    (NO_LIMITS, HMS_LD, b"15:59:60+15:60", 4, None),
+    # "When several hold, the lowest number is given.": 3, then 4, then 5
+    (NO_LIMITS, HMS_Z, b"12:34:60", 3, None),
+    (NO_LIMITS, HMS_LD, b"23:59:60Z", 3, None),
+    (YEARS_2000_TO_2010, YMD_T_HMS_Z, b"2011-12-31T12:34:60Z", 4, None),
+    (YEARS_2000_TO_2010, YMD_T_HMS_Z, b"2011-12-31T23:59:60Z", 5, None),
+    (NO_LIMITS, YMD_T_HMS_Z, b"1066-10-14T12:34:60Z", 4, None),
+    (NO_LIMITS, YMD_T_HMS_Z, b"1066-10-14T23:59:60Z", 5, None),
+    (NO_HOUR_24, HMS_Z, b"24:00:60Z", 4, None),
+    (NO_HOUR_24, HMS_Z, b"24:00:00Z", 5, None),
+    (NO_HOUR_24, HMS_Z, b"12:34:60Z", 4, None),
+    (NO_HOUR_24, HMS_Z, b"23:59:60Z", 0, b"23:59:60Z"),
     # "Difference hours 0 to 15, minutes 0 to 59; a zero difference has `+`, and `-00` is refusal 4."
     (NO_LIMITS, HM_LD, b"15:27+15:59", 0, b"15:27+15:59"),
     (NO_LIMITS, HM_LD, b"15:27-16", 4, None),
@@ -350,10 +378,35 @@ def check_durations():
         agree(judge(INTERVAL_D, NO_LIMITS, text), (0, text), "canonical text again", text)
 
 
+def check_minutes():
+    """In every minute of the day: with each difference second 60 is accepted in the one that Python says, with Z at 23:59
+    and without any in all of them; and second 59 in all of them."""
+    minutes = list(itertools.product(range(24), range(60)))
+    for difference in all_differences():
+        accepted = [minute for minute in minutes if second_60_can_be(*minute, "LD", difference)]
+        agree(accepted, [at_23_59_utc(difference)], "second 60 with", difference)
+    for minute in minutes:
+        start = b"%02d:%02d:" % minute
+        agree(judge(HMS_L, NO_LIMITS, start + b"60"), (0, start + b"60"), "local time", minute)
+        agree(judge(HMS_Z, NO_LIMITS, start + b"60Z")[0], 0 if minute == (23, 59) else 4, "Z", minute)
+        for type_text, end in ((HMS_L, b"59"), (HMS_Z, b"59Z"), (HMS_LD, b"59+05:30"), (HMS_LD, b"59-15:59")):
+            agree(judge(type_text, NO_LIMITS, start + end), (0, start + end), "second 59", type_text, minute)
+
+
+def check_second_60():
+    """#102 in texts."""
+    for type_text, text, _, number in SECOND_60:
+        agree(judge(type_text, NO_LIMITS, text), (number, None if number else text), type_text, text)
+    for _, _, _, text, number in second_60_with_all_differences():
+        agree(judge(HMS_LD, NO_LIMITS, text), (number, None if number else text), "all differences", text)
+    check_minutes()
+
+
 def main():
     """Ends with a message at the first disagreement; prints nothing when there is none."""
     for limits, type_text, text, number, expected in TEXTS:
         agree(judge(type_text, limits, text), (number, expected), limits, type_text, text)
+    check_second_60()
     for type_text, (text, expected) in itertools.product((b"DURATION", INTERVAL_D), DURATIONS):
         agree(judge(type_text, NO_LIMITS, text), (0 if expected else 3, expected), type_text, text)
     check_durations()

@@ -11,7 +11,8 @@ import sys
 
 import der
 import per
-from checks import HM_LD, HMSF3_L, HMSF4_L, INTERVAL_D, ROOM, Y_BASIC, Y_L5, Y_PROLEPTIC, YMD_BASIC, YMD_PROLEPTIC
+from checks import HM_LD, HMS_LD, HMS_Z, HMSF3_L, HMSF4_L, INTERVAL_D, ROOM
+from checks import Y_BASIC, Y_L5, Y_PROLEPTIC, YMD_BASIC, YMD_PROLEPTIC
 from settings import Limits, NO_LIMITS
 
 WORKS = {b"per": per.encode, b"der": der.encode, b"unper": per.decode, b"under": der.decode}
@@ -32,6 +33,8 @@ BEFORE = b"\xAA"
 ROOMS_OF_REFUSALS = (0, 1, 24)
 
 YMD_NEGATIVE_L5 = b"Basic=Date Date=YMD Year=Negative|Basic=Date Date=YMD Year=L5"
+HMSF3_LD = b"Basic=Time Time=HMSF3 Local-or-UTC=LD"
+Y_T_HMS_Z = b"Basic=Date-Time Date=Y Year=Basic Time=HMS Local-or-UTC=Z"
 
 # type, limits, canonical text
 GOOD_VALUES = (
@@ -59,6 +62,15 @@ GOOD_VALUES = (
     (INTERVAL_D, b"none", b"P999999999Y"),
     (b"DURATION", b"none", b"PT0.000S"),
     (INTERVAL_D, b"none", b"PT0.1000S"),
+    (b"TIME-OF-DAY", b"none", b"12:34:60"),
+    (HMS_Z, b"none", b"23:59:60Z"),
+    (HMS_LD, b"none", b"05:29:60+05:30"),
+    (HMS_LD, b"none", b"18:59:60-05"),
+    (HMS_LD, b"no24", b"23:59:60+00"),
+    (HMS_LD, b"none", b"15:58:60+15:59"),
+    (HMS_LD, b"none", b"08:00:60-15:59"),
+    (HMSF3_LD, b"none", b"00:59:60.999+01"),
+    (Y_T_HMS_Z, b"2000..2010,no24", b"2005T23:59:60Z"),
 )
 
 # type, limits, text
@@ -93,6 +105,16 @@ REFUSED_TEXTS = (
     (INTERVAL_D, b"no24", b"P01Y"),
     (INTERVAL_D + b"|" + INTERVAL_D, b"none", b"P1Y6M"),
     (INTERVAL_D + b"|" + Y_BASIC, b"none", b"P1Y6M"),
+    (HMS_Z, b"none", b"12:34:60Z"),
+    (HMS_LD, b"none", b"05:30:60+05:30"),
+    (HMS_LD, b"none", b"23:59:60+05:30"),
+    (HMS_LD, b"none", b"18:29:60+05:30"),
+    (HMS_LD, b"none", b"04:59:60+05:30"),
+    (HMS_LD, b"no24", b"18:59:60-05:30"),
+    (HMS_LD, b"none", b"23:59:60-00"),
+    (HMSF3_LD, b"none", b"12:34:60,500+01:00"),
+    (Y_T_HMS_Z, b"2000..2010", b"1999T12:34:60Z"),
+    (Y_T_HMS_Z, b"2000..2010", b"1999T23:59:60Z"),
 )
 
 
@@ -102,6 +124,27 @@ def octets_of(work, type_text, text, limits=b"none"):
     if number != 0:
         sys.exit("%s is refused" % text)
     return octets
+
+
+def octets_of_second_60():
+    """Work, type, limits, octets: second 60 where it can't be, alone, with a filling that is not zero, with an octet left
+    over, with a comma and in the year 1999; and where it can be, with a filling, second 61, and 1999 again."""
+    return (
+        (b"unper", HMS_Z, b"none", b"\x64\x5E\x00"),
+        (b"unper", HMS_Z, b"none", b"\x64\x5E\x01"),
+        (b"unper", HMS_Z, b"none", b"\x64\x5E\x00\x00"),
+        (b"unper", HMS_Z, b"none", b"\xBF\x7E\x01"),
+        (b"unper", HMS_Z, b"none", b"\xBF\x7E\x80"),
+        (b"unper", HMS_LD, b"none", b"\x2B\xDE\x68\xE8"),
+        (b"unper", Y_T_HMS_Z, b"2000..2010", b"\xBE\x99\x17\x80"),
+        (b"unper", Y_T_HMS_Z, b"2000..2010", octets_of(b"per", Y_T_HMS_Z, b"1999T23:59:60Z")),
+        (b"under", HMS_Z, b"none", b"\x0E\x0912:34:60Z"),
+        (b"under", HMS_Z, b"none", b"\x0E\x0912:34:60Z\x00"),
+        (b"under", HMS_LD, b"none", b"\x0E\x0E05:30:60+05:30"),
+        (b"under", HMSF3_LD, b"none", b"\x0E\x1212:34:60,500+01:00"),
+        (b"under", Y_T_HMS_Z, b"2000..2010", b"\x0E\x0E1999T12:34:60Z"),
+        (b"under", Y_T_HMS_Z, b"2000..2010", octets_of(b"der", Y_T_HMS_Z, b"1999T23:59:60Z")),
+    )
 
 
 def refused_octets():
@@ -145,6 +188,7 @@ def refused_octets():
         (b"under", INTERVAL_D, b"none", b"\x0E\x06PT0,5S"),
         (b"under", b"DURATION", b"none", b"\x1F\x22\x041Y6M\x00"),
         (b"under", INTERVAL_D, b"no24", b"\x0E\x05P1Y6M"),
+        *octets_of_second_60(),
     )
 
 

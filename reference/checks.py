@@ -1,9 +1,12 @@
 """What the checks share: limits and types with plain names, and what is tried on the encoders and decoders."""
 
+import itertools
+import re
 import sys
+from datetime import datetime, timedelta, timezone
 
 from settings import Limits
-from texts import judge
+from texts import Difference, judge
 
 # more octets than any result has: a duration has up to 74
 ROOM = 136
@@ -29,17 +32,85 @@ H_LD = b"Basic=Time Time=H Local-or-UTC=LD"
 HM_Z = b"Basic=Time Time=HM Local-or-UTC=Z"
 HM_LD = b"Basic=Time Time=HM Local-or-UTC=LD"
 HMS_L = b"Basic=Time Time=HMS Local-or-UTC=L"
+HMS_Z = b"Basic=Time Time=HMS Local-or-UTC=Z"
+HMS_LD = b"Basic=Time Time=HMS Local-or-UTC=LD"
 HF1_L = b"Basic=Time Time=HF1 Local-or-UTC=L"
 HF2_L = b"Basic=Time Time=HF2 Local-or-UTC=L"
 HF2_LD = b"Basic=Time Time=HF2 Local-or-UTC=LD"
 HF4_L = b"Basic=Time Time=HF4 Local-or-UTC=L"
 HMF1_LD = b"Basic=Time Time=HMF1 Local-or-UTC=LD"
+HMSF1_Z = b"Basic=Time Time=HMSF1 Local-or-UTC=Z"
+HMSF2_LD = b"Basic=Time Time=HMSF2 Local-or-UTC=LD"
 HMSF3_L = b"Basic=Time Time=HMSF3 Local-or-UTC=L"
 HMSF4_L = b"Basic=Time Time=HMSF4 Local-or-UTC=L"
+HMSF4_LD = b"Basic=Time Time=HMSF4 Local-or-UTC=LD"
 YMD_T_HMS_L = b"Basic=Date-Time Date=YMD Year=Basic Time=HMS Local-or-UTC=L"
+YMD_T_HMS_Z = b"Basic=Date-Time Date=YMD Year=Basic Time=HMS Local-or-UTC=Z"
+YMD_T_HMS_LD = b"Basic=Date-Time Date=YMD Year=Basic Time=HMS Local-or-UTC=LD"
 YW_T_HM_LD = b"Basic=Date-Time Date=YW Year=Basic Time=HM Local-or-UTC=LD"
 YW_T_HMF1_LD = b"Basic=Date-Time Date=YW Year=Negative Time=HMF1 Local-or-UTC=LD"
 INTERVAL_D = b"Basic=Interval Interval-type=D"
+
+# type, canonical text, the bits of its fields, and the number: 0, or 4 as #102 says, "for text, PER and DER". Hours have 5
+# bits, minutes 6 and seconds 6; of a difference there are a bit for minutes, the hours and 15 in 5 and the minutes less 1
+# in 6. Before a date-time stand the choice, the year, the month less 1 and the day less 1
+SECOND_60 = (
+    # "with Z, second 60 is accepted only at 23:59"
+    (HMS_Z, b"23:59:60Z", "10111 111011 111100", 0),
+    (HMS_Z, b"12:34:60Z", "01100 100010 111100", 4),
+    (HMS_Z, b"23:58:60Z", "10111 111010 111100", 4),
+    (HMS_Z, b"22:59:60Z", "10110 111011 111100", 4),
+    (HMS_Z, b"00:00:60Z", "00000 000000 111100", 4),
+    # "with a difference, only where local time less the difference, around the day, is 23:59, as in `05:29:60+05:30`"
+    (HMS_LD, b"05:29:60+05:30", "00101 011101 111100 1 10100 011101", 0),
+    (HMS_LD, b"05:30:60+05:30", "00101 011110 111100 1 10100 011101", 4),
+    (HMS_LD, b"05:28:60+05:30", "00101 011100 111100 1 10100 011101", 4),
+    (HMS_LD, b"23:59:60+05:30", "10111 111011 111100 1 10100 011101", 4),
+    # local time and the difference, and local time less its hours, are 23:59
+    (HMS_LD, b"18:29:60+05:30", "10010 011101 111100 1 10100 011101", 4),
+    (HMS_LD, b"04:59:60+05:30", "00100 111011 111100 1 10100 011101", 4),
+    # ahead by nothing, by a minute, by an hour and by the most: the day before in UTC
+    (HMS_LD, b"23:59:60+00", "10111 111011 111100 0 01111", 0),
+    (HMS_LD, b"12:34:60+00", "01100 100010 111100 0 01111", 4),
+    (HMS_LD, b"00:00:60+00:01", "00000 000000 111100 1 01111 000000", 0),
+    (HMS_LD, b"23:59:60+00:01", "10111 111011 111100 1 01111 000000", 4),
+    (HMS_LD, b"00:59:60+01", "00000 111011 111100 0 10000", 0),
+    (HMS_LD, b"22:59:60+01", "10110 111011 111100 0 10000", 4),
+    (HMS_LD, b"15:58:60+15:59", "01111 111010 111100 1 11110 111010", 0),
+    (HMS_LD, b"23:59:60+15:59", "10111 111011 111100 1 11110 111010", 4),
+    # behind, by hours, by hours and minutes, and by the most; the sign is also that of the minutes
+    (HMS_LD, b"18:59:60-05", "10010 111011 111100 0 01010", 0),
+    (HMS_LD, b"23:59:60-05", "10111 111011 111100 0 01010", 4),
+    (HMS_LD, b"04:59:60-05", "00100 111011 111100 0 01010", 4),
+    (HMS_LD, b"18:29:60-05:30", "10010 011101 111100 1 01010 011101", 0),
+    (HMS_LD, b"19:29:60-05:30", "10011 011101 111100 1 01010 011101", 4),
+    (HMS_LD, b"18:59:60-05:30", "10010 111011 111100 1 01010 011101", 4),
+    (HMS_LD, b"08:00:60-15:59", "01000 000000 111100 1 00000 111010", 0),
+    (HMS_LD, b"08:59:60-15:59", "01000 111011 111100 1 00000 111010", 4),
+    # any fraction may follow: 9, 0, 50, and 1000 as a free integer
+    (HMSF1_Z, b"23:59:60.9Z", "10111 111011 111100 0 0000001001", 0),
+    (HMSF1_Z, b"12:34:60.9Z", "01100 100010 111100 0 0000001001", 4),
+    (HMSF1_Z, b"12:34:60.0Z", "01100 100010 111100 0 0000000000", 4),
+    (HMSF2_LD, b"18:59:60.50-05", "10010 111011 111100 0 0000110010 0 01010", 0),
+    (HMSF2_LD, b"23:59:60.50-05", "10111 111011 111100 0 0000110010 0 01010", 4),
+    (HMSF4_LD, b"05:29:60.1000+05:30", "00101 011101 111100 1 00000010 00000011 11101000 1 10100 011101", 0),
+    (HMSF4_LD, b"23:59:60.1000+05:30", "10111 111011 111100 1 00000010 00000011 11101000 1 10100 011101", 4),
+    # "for a local time without one we can't know and keep accepting it"
+    (HMS_L, b"12:34:60", "01100 100010 111100", 0),
+    (HMS_L, b"00:00:60", "00000 000000 111100", 0),
+    (HMSF3_L, b"12:34:60.500", "01100 100010 111100 0 0111110100", 0),
+    (YMD_T_HMS_L, b"2006-06-13T12:34:60", "00 0001 0101 01100 01100 100010 111100", 0),
+    # after a date, which is the local one
+    (YMD_T_HMS_Z, b"2005-12-31T23:59:60Z", "00 0000 1011 11110 10111 111011 111100", 0),
+    (YMD_T_HMS_Z, b"2005-12-31T12:34:60Z", "00 0000 1011 11110 01100 100010 111100", 4),
+    (YMD_T_HMS_LD, b"2006-01-01T05:29:60+05:30", "00 0001 0000 00000 00101 011101 111100 1 10100 011101", 0),
+    (YMD_T_HMS_LD, b"2006-01-01T23:59:60+05:30", "00 0001 0000 00000 10111 111011 111100 1 10100 011101", 4),
+    # the second before is in every minute
+    (HMS_Z, b"12:34:59Z", "01100 100010 111011", 0),
+    (HMS_LD, b"05:30:59+05:30", "00101 011110 111011 1 10100 011101", 0),
+    (HMS_LD, b"23:59:59-05", "10111 111011 111011 0 01010", 0),
+    (YMD_T_HMS_Z, b"2005-12-31T12:34:59Z", "00 0000 1011 11110 01100 100010 111011", 0),
+)
 
 # the most octets that a duration has: six numbers and a fraction, each of nine digits
 LONGEST_DURATION = b"P999999999Y999999999M999999999DT999999999H999999999M999999999.999999999S"
@@ -49,6 +120,39 @@ def agree(found, expected, *what):
     """Ends the program with a message when the two differ."""
     if found != expected:
         sys.exit("%s: found %r, expected %r" % (" ".join(map(str, what)), found, expected))
+
+
+def zones_at_second_60(texts):
+    """What follows second 60 and its fraction in some of the texts: nothing, `Z`, or the sign of a difference."""
+    found = (re.search(rb":60(?:\.[0-9]+)?(\Z|[Z+-])", text) for text in texts)
+    return {match[1] for match in found if match}
+
+
+def all_differences():
+    """"Difference hours 0 to 15, minutes 0 to 59; a zero difference has `+`"."""
+    for sign, hours, minutes in itertools.product((b"+", b"-"), range(16), range(60)):
+        if sign == b"+" or hours > 0:
+            yield Difference(sign, hours, minutes)
+
+
+def at_23_59_utc(difference):
+    """The hours and minutes of local time when UTC has 23:59, by Python's own time zones."""
+    ahead = timedelta(hours=difference.hours, minutes=difference.minutes)
+    zone = timezone(-ahead if difference.sign == b"-" else ahead)
+    local = datetime(2006, 6, 13, 23, 59, tzinfo=timezone.utc).astimezone(zone)
+    return local.hour, local.minute
+
+
+def second_60_with_all_differences():
+    """The difference, the hours and minutes, the text and the number: 0 in the minute that Python says, 4 in those next to
+    it and an hour off."""
+    for difference in all_differences():
+        hours, minutes = at_23_59_utc(difference)
+        end = b":%02d" % difference.minutes if difference.minutes else b""
+        for off, number in ((0, 0), (-1, 4), (1, 4), (60, 4)):
+            hour, minute = divmod((60 * hours + minutes + off) % 1440, 60)
+            text = b"%02d:%02d:60%s%02d%s" % (hour, minute, difference.sign, difference.hours, end)
+            yield difference, hour, minute, text, number
 
 
 def check_value(codec, limits, type_text, text, octets, bits):

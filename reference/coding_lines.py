@@ -25,7 +25,7 @@ from per import DAY_TIME_FIELDS, read_octets, value_bits
 from settings import is_refused, read_type
 from texts import read_text
 from value_lines import DATES, DATE_TAILS, MENU, TIMES, WINDOWS, YEAR_CHOICES, ZONES
-from value_lines import date_time_type, date_type, time_text, time_type
+from value_lines import date_time_type, date_type, last_fields, time_text, time_type
 
 ROOMS = {letter.encode(): length for length, letter in enumerate(string.ascii_letters)} | {b"*": 64}
 ROOM_OF = {length: letter for letter, length in ROOMS.items()}
@@ -134,7 +134,7 @@ def sample():
     yield from ((b"TIME-OF-DAY", b"24:00:00"), (b"TIME-OF-DAY", b"23:59:60"), (b"DATE-TIME", b"2006-06-13T15:27:46"))
     for time, zone, text in (
         (b"H", b"L", b"15"), (b"H", b"Z", b"24Z"), (b"H", b"LD", b"15+00"), (b"HM", b"L", b"15:27"),
-        (b"HM", b"Z", b"23:59Z"), (b"HM", b"LD", b"15:27-01:30"), (b"HMS", b"Z", b"15:27:46Z"),
+        (b"HM", b"Z", b"23:59Z"), (b"HM", b"LD", b"15:27-01:30"), (b"HMS", b"Z", b"23:59:60Z"),
         (b"HMS", b"LD", b"15:27:46+15:59"), (b"HF1", b"L", b"15.5"), (b"HF2", b"Z", b"15.25Z"),
         (b"HF3", b"LD", b"15.999-15:59"), (b"HF4", b"L", b"24.0000"), (b"HMF1", b"LD", b"15:27.5+00:01"),
         (b"HMF4", b"Z", b"15:27.1000Z"), (b"HMF5", b"L", b"15:27.00999"), (b"HMSF3", b"L", b"15:27:46.500"),
@@ -144,10 +144,10 @@ def sample():
         yield time_type(time, zone), text
     for date, choice, time, zone, text in (
         (b"Y", BASIC, b"H", b"L", b"2006T15"), (b"YM", PROLEPTIC, b"HM", b"Z", b"1066-10T15:27Z"),
-        (b"YMD", NEGATIVE, b"HMS", b"LD", b"-0044-03-15T12:00:60+01"), (b"YD", L5, b"HF2", b"L", b"+12006-365T23.99"),
+        (b"YMD", NEGATIVE, b"HMS", b"LD", b"-0044-03-15T00:59:60+01"), (b"YD", L5, b"HF2", b"L", b"+12006-365T23.99"),
         (b"YW", BASIC_PROLEPTIC, b"HMF3", b"LD", b"2020-W53T15:27.500-09:30"),
         (b"YWD", NEGATIVE_L5, b"HMSF4", b"Z", b"-10000-W01-7T15:27:46.1000Z"),
-        (b"YMD", BASIC, b"HMSF9", b"LD", b"2277-12-31T23:59:60.123456789+14"),
+        (b"YMD", BASIC, b"HMSF9", b"LD", b"2277-12-31T13:59:60.123456789+14"),
         (b"YMD", BASIC_PROLEPTIC, b"HMSF2", b"LD", b"2006-06-13T15:27:46.50-05:45"),
     ):
         yield date_time_type(date, choice, time, zone), text
@@ -197,18 +197,20 @@ def whole_times():
     """Each time and each zone with the first and the last time of day, and with the digits of the fraction all alike."""
     for time, zone in itertools.product(TIMES, ZONES):
         last = value_lines.zone_texts(zone)[-1]
-        for fields, digit in (((b"00", b"00", b"00"), b"0"), ((b"23", b"59", b"60"), b"9"), ((b"24", b"00", b"00"), b"0")):
+        for fields, digit in (((b"00", b"00", b"00"), b"0"), (last_fields(time, last), b"9"), ((b"24", b"00", b"00"), b"0")):
             yield from both_ways(time_type(time, zone), time_text(time, fields, digit, last))
 
 
 def differences():
-    """Differences after each time with and without a fraction, both ways."""
+    """Differences after each time with and without a fraction, and after second 60 in the minute of each, both ways."""
     types = (
-        (time_type(b"H", b"LD"), b"15"), (time_type(b"HMS", b"LD"), b"23:59:60"), (time_type(b"HMF4", b"LD"), b"15:27.1000"),
+        (time_type(b"H", b"LD"), b"15"), (time_type(b"HMS", b"LD"), b"23:59:59"), (time_type(b"HMF4", b"LD"), b"15:27.1000"),
         (date_time_type(b"YMD", BASIC, b"HM", b"LD"), b"2006-06-13T24:00"),
     )
     for (type_text, start), difference in itertools.product(types, DIFFERENCES):
         yield from both_ways(type_text, start + difference)
+    for difference in DIFFERENCES:
+        yield from both_ways(time_type(b"HMS", b"LD"), time_text(b"HMS", last_fields(b"HMS", difference), zone=difference))
 
 
 def difference_fields():
@@ -241,9 +243,9 @@ def windows():
 def no_hour_24():
     """Hour 24 and others where the type has "no hour 24", both ways."""
     for time, zone in itertools.product((b"H", b"HM", b"HMS", b"HF1", b"HMF3", b"HMSF4"), ZONES):
-        for fields in ((b"24", b"00", b"00"), (b"23", b"59", b"60"), (b"00", b"00", b"00"), (b"24", b"00", b"01")):
-            text = time_text(time, fields, b"0", value_lines.zone_texts(zone)[-1])
-            yield from both_ways(time_type(time, zone), text, b"8")
+        last = value_lines.zone_texts(zone)[-1]
+        for fields in ((b"24", b"00", b"00"), last_fields(time, last), (b"00", b"00", b"00"), (b"24", b"00", b"01")):
+            yield from both_ways(time_type(time, zone), time_text(time, fields, b"0", last), b"8")
     for limits, date, time in itertools.product((b"0", b"1", b"8", b"9"), (b"1999-12-31", b"2005-06-13", b"2005-02-29"),
                                                 (b"T24:00:00", b"T23:59:59", b"T24:00:01")):
         yield from both_ways(b"DATE-TIME", date + time, limits)
@@ -254,6 +256,11 @@ def boundaries():
     yield from both_ways_of(value_lines.date_boundaries())
     yield from itertools.islice(both_ways_of(value_lines.time_boundaries()), 0, None, 3)
     yield from itertools.islice(both_ways_of(value_lines.week_boundaries()), 0, None, 3)
+
+
+def second_60():
+    """Second 60 in many minutes, with each zone, both ways; "Refusals: 4 for the others"."""
+    yield from both_ways_of(value_lines.second_60())
 
 
 def turned_bits(octets):
@@ -483,6 +490,31 @@ def causes_in_elements():
         yield element_line(type_text, octets[:-1], limits)
 
 
+def octets_at_second_60():
+    """Second 60 at 05:29+05:30 and at 23:59+05:30, and second 61, beside other causes: years in choices 0 and 3, a fraction
+    after a 1 bit, filling not zero and octets left over."""
+    y2006, y2011, y1066, other_2006 = "000001", "000110", "11" + integer_bits(1066, 2), "11" + integer_bits(2006, 2)
+    half, long_half = "0" + number_bits(50, 10), "1" + integer_bits(50, 1)
+    for clock in ("00101" + "011101" + "111100", "10111" + "111011" + "111100", "10111" + "111011" + "111101"):
+        for year, fraction in ((y1066, half), (other_2006, half), (y2011, half), (y2006, long_half), (y2006, half)):
+            octets = fill(year + "1011" + "11110" + clock + fraction + "1" + "10100" + "011101")
+            yield octets
+        yield from (octets[:-1] + bytes([octets[-1] | 1]), octets + b"\x00", octets[:-1])
+
+
+def causes_at_second_60():
+    """Second 60 where it can be and where it can't, beside other causes in octets and in elements, under limits and
+    without room: "When several hold, the lowest number is given"."""
+    type_text = date_time_type(b"YMD", BASIC, b"HMSF2", b"LD")
+    ends = (b"05:29:60.50+05:30", b"05:29:60,50+05:30", b"05:59:60.50+06:00", b"23:59:60.50+05:30", b"23:59:60,50+05:30",
+            b"23:59:60.50+06:00", b"23:59:60,50-00:00", b"23:59:61,50+05:30")
+    for limits, room in itertools.product((b"0", b"9"), (b"*", b"a")):
+        yield from (decode_line(type_text, octets, limits, room) for octets in octets_at_second_60())
+        for year, end in itertools.product((b"2006", b"2011", b"1066"), ends):
+            octets = element(type_text, year + b"-12-31T" + end)
+            yield from (element_line(type_text, each, limits, room) for each in (octets, octets + b"\x00"))
+
+
 def causes_in_names():
     """Two and more causes in one element of a name: tag, length, digits, value, limits, octets left over, room."""
     dates, times = (b"20060613", b"20060229", b"19991231", b"10660230", b"2006061Z"), (b"152746", b"240000", b"240001")
@@ -553,9 +585,10 @@ def writers():
     for n in range(1, 10):
         yield time_type(b"HMSF%d" % n, b"L"), b"15:27:46." + b"0987654321"[:n]
         yield time_type(b"HMSF%d" % n, b"L"), b"15:27:46." + b"9876543210"[:n]
-    for text in (b"24:00:00", b"23:59:60", b"00:00:00"):
+    for text, with_difference in ((b"24:00:00", b"24:00:00-01:30"), (b"23:59:60", b"22:29:60-01:30"),
+                                  (b"00:00:00", b"00:00:00-01:30")):
         yield b"TIME-OF-DAY", text
-        yield time_type(b"HMS", b"LD"), text + b"-01:30"
+        yield time_type(b"HMS", b"LD"), with_difference
         yield b"DATE-TIME", b"2006-06-13T" + text
 
 
@@ -880,10 +913,10 @@ def last_line():
 
 SECTIONS = (
     checked_values, year_ends, near_years, fractions, whole_times, differences, difference_fields, date_times, windows,
-    no_hour_24, boundaries, changed_octets, filling, free_integers, free_integer_lengths, other_choice,
+    no_hour_24, boundaries, second_60, changed_octets, filling, free_integers, free_integer_lengths, other_choice,
     fraction_fields, fractions_at_hour_24, date_fields, time_fields, rooms, rooms_in_der, changed_elements,
-    lengths_of_elements, names_in_elements, causes_in_octets, causes_in_elements, causes_in_names, causes_in_years,
-    causes_in_texts, cross_table, cross_table_in_der, refused_types, restrictions_without_place, any_values,
+    lengths_of_elements, names_in_elements, causes_in_octets, causes_in_elements, causes_at_second_60, causes_in_names,
+    causes_in_years, causes_in_texts, cross_table, cross_table_in_der, refused_types, restrictions_without_place, any_values,
     any_octets, any_elements, long_inputs, small_hex, vectors, vectors_of_der, other_lines, durations,
     fields_of_durations, changed_durations, elements_of_durations, rooms_of_durations, limits_on_durations,
     durations_and_points, any_durations, last_line,

@@ -22,7 +22,7 @@ from coding_lines import BASIC, BASIC_PROLEPTIC, HEX, L5, LONGEST_LINE, NEGATIVE
 from elements import der_vectors, element
 from settings import NO_LIMITS
 from value_lines import DATES, DATE_TAILS, TIMES, WHOLE_TIMES, YEAR_CHOICES, ZONES
-from value_lines import date_time_type, date_type, time_text, time_type
+from value_lines import date_time_type, date_type, last_fields, time_text, time_type
 
 # more octets than any result has: a duration has up to 74
 ROOM = 136
@@ -107,7 +107,7 @@ SAMPLE = (
     (date_type(b"YWD", *PROLEPTIC), b"0004-W53-7"),
     (time_type(b"H", b"Z"), b"24Z"),
     (time_type(b"HM", b"LD"), b"23:59-15:59"),
-    (time_type(b"HMS", b"LD"), b"08:09:60+09"),
+    (time_type(b"HMS", b"LD"), b"08:59:60+09"),
     (time_type(b"HF1", b"LD"), b"07.5+00:45"),
     (time_type(b"HMF3", b"Z"), b"16:08.999Z"),
     (time_type(b"HMF8", b"L"), b"16:08.00001000"),
@@ -168,7 +168,7 @@ def without_limits(section):
 
 def of_coding_lines(section, step):
     """Each so many-th line of a section of coding_lines.py, where it has no limits and the longest room."""
-    works = {b"e0*": b"per", b"d0*": b"unper"}
+    works = {b"e0*": b"per", b"d0*": b"unper", b"u0*": b"under"}
     for each in itertools.islice(section, 0, None, step):
         start, _, rest = each.partition(b";")
         if start in works:
@@ -232,6 +232,19 @@ def boundaries():
             yield from all_works(type_text, text)
         if k % 3 == 2:
             yield under_line(type_text, element(type_text, text))
+
+
+def second_60():
+    """Second 60: the examples in every work, also beside other causes, its forms in two, and many minutes in one."""
+    questions = itertools.chain(value_lines.examples_of_second_60(), value_lines.causes_at_second_60())
+    for type_text, text in without_limits(questions):
+        yield from all_works(type_text, text)
+    yield from of_coding_lines(coding_lines.causes_at_second_60(), 1)
+    for k, (type_text, text) in enumerate(without_limits(value_lines.forms_of_second_60())):
+        yield from itertools.islice(all_works(type_text, text), k % 2, None, 2)
+    for k, (type_text, text) in enumerate(without_limits(value_lines.minutes_of_second_60())):
+        lines = list(all_works(type_text, text))
+        yield lines[k % len(lines)]
 
 
 def other_forms():
@@ -308,8 +321,8 @@ def other_spellings():
         yield from all_works(time_type(time, zone), text)
     for date, years, time, zone in itertools.islice(value_lines.some_date_times(), 1, None, 5):
         start = COMMON_YEARS[years[0]] + DATE_TAILS[date] + b"T"
-        end = {b"L": b"", b"Z": b"Z", b"LD": b"-07:00"}[zone]
-        text = start + time_text(time, (b"00", b"59", b"60"), b"090", end, b",")
+        hour, end = {b"L": (b"00", b""), b"Z": (b"23", b"Z"), b"LD": (b"16", b"-07:00")}[zone]
+        text = start + time_text(time, (hour, b"59", b"60"), b"090", end, b",")
         yield from all_works(date_time_type(date, years, time, zone), text)
 
 
@@ -384,7 +397,7 @@ def times_in_octets():
         end = value_lines.zone_texts(zone)[1 if zone == b"LD" else 0]
         for n, digits in itertools.product(range(1, 10), (b"01", b"8")):
             written = b"%sF%d" % (time, n)
-            type_text, text = time_type(written, zone), time_text(written, (b"23", b"59", b"60"), digits, end)
+            type_text, text = time_type(written, zone), time_text(written, last_fields(written, end), digits, end)
             readers = [time_type(b"%sF%d" % (time, m), zone) for m in range(1, 10)]
             readers += [time_type(other, ZONES[n % 3]) for other in (b"H", b"HM", b"HMS")]
             for reader in readers:
@@ -709,7 +722,7 @@ def last_line():
 
 # each line once
 SECTIONS = (
-    first_lines, checked_values, good_values, vectors, boundaries, other_forms, refusals, other_spellings,
+    first_lines, checked_values, good_values, vectors, boundaries, second_60, other_forms, refusals, other_spellings,
     changed_texts, changed_types, changed_octets, changed_elements, names_in_elements, dates_in_octets,
     times_in_octets, date_times_in_octets, fields_in_octets, any_values, any_octets, refused_types, all_orders,
     hex_digits, no_hex_digits, every_octet, semicolons, other_works, long_parts, good_durations, other_durations,

@@ -1,4 +1,4 @@
-"""Texts and values of document 01, "Texts" and "What exists": "Extended format, no quotation marks"."""
+"""Texts and values of document 01, "Texts" and "What exists", and of #102: "Extended format, no quotation marks"."""
 
 from collections import namedtuple
 
@@ -33,6 +33,10 @@ DATE_FIELDS = {
 
 # "two-digit fields with `:` between"
 TIME_FIELDS = {"H": 1, "HM": 2, "HMS": 3, "HF": 1, "HMF": 2, "HMSF": 3}
+
+# the minutes of a day, and 23:59 among them, counted from 0
+MINUTES_OF_A_DAY = 24 * 60
+LAST_MINUTE = 23 * 60 + 59
 
 # "Basic (1582 to 9999), Proleptic (0000 to 1581), Negative (-9999 to -0001), L5 (five digits after a sign,
 # first digit not 0)"
@@ -160,13 +164,38 @@ def time_of_day_exists(time):
     return all(field <= highest for field, highest in zip(time.fields, (23, 59, 60)))
 
 
+def signed_minutes(difference):
+    """A difference in minutes; its sign is also that of its minutes."""
+    minutes = 60 * difference.hours + difference.minutes
+    return -minutes if difference.sign == b"-" else minutes
+
+
+def second_60_can_be(hours, minutes, zone, difference):
+    """#102: "with Z, second 60 is accepted only at 23:59; with a difference, only where local time less the difference,
+    around the day, is 23:59, as in `05:29:60+05:30`; for a local time without one we can't know and keep accepting
+    it"."""
+    local_time = 60 * hours + minutes
+    if zone == "Z":
+        return local_time == LAST_MINUTE
+    if zone == "LD":
+        return (local_time - signed_minutes(difference)) % MINUTES_OF_A_DAY == LAST_MINUTE
+    return True
+
+
+def time_exists(time):
+    """The contrary of "no such" time or difference."""
+    if not time_of_day_exists(time):
+        return False
+    if time.difference and not difference_exists(time.difference):
+        return False
+    return time.fields[2:] != (60,) or second_60_can_be(*time.fields[:2], time.zone, time.difference)
+
+
 def value_exists(value):
     """The contrary of "no such date, time or difference"; every duration exists."""
     if value.date and not date_exists(value.date):
         return False
-    if value.time and not time_of_day_exists(value.time):
-        return False
-    return not (value.time and value.time.difference) or difference_exists(value.time.difference)
+    return not value.time or time_exists(value.time)
 
 
 def year_setting(year):

@@ -12,7 +12,7 @@ import sys
 import duration_texts
 from duration_texts import LIST, OTHER_LIST
 from settings import Limits, NO_LIMITS, fraction_digits, is_refused, read_type, same_rows
-from texts import judge
+from texts import LAST_MINUTE, MINUTES_OF_A_DAY, judge
 
 MENU = {
     b"0": NO_LIMITS,
@@ -71,6 +71,11 @@ YEARS_AT_WINDOWS = (
 # what may stand after the year of each form, in any year
 DATE_TAILS = {b"Y": b"", b"YM": b"-06", b"YMD": b"-06-13", b"YD": b"-164", b"YW": b"-W24", b"YWD": b"-W24-2"}
 
+# differences ahead and behind, at their ends and inside, for second 60
+DIFFERENCES_AT_SECOND_60 = (
+    b"+00", b"+00:01", b"+01:00", b"+05:30", b"+12", b"+15:59", b"-01", b"-01:01", b"-05:30", b"-12:00", b"-15:59",
+)
+
 # octets that take another's place, or stand between two
 TEXT_OCTETS = [bytes([octet]) for octet in b"01259-+:.,/TZW \x00\x80\xFF"]
 TYPE_OCTETS = [bytes([octet]) for octet in b"059=| -DTYMHLZa\x00\xFF"]
@@ -111,6 +116,26 @@ def zone_texts(zone):
     return {b"L": (b"",), b"Z": (b"Z",), b"LD": (b"+00", b"-05:30", b"+01:00", b"+15:59")}[zone]
 
 
+def difference_in_minutes(zone_text):
+    """The minutes that local time is ahead, of a difference's text; 0 for the text of another zone."""
+    if zone_text in (b"", b"Z"):
+        return 0
+    hours, _, minutes = zone_text[1:].partition(b":")
+    return int(zone_text[:1] + b"1") * (60 * int(hours) + int(minutes or b"0"))
+
+
+def second_60_of(minute):
+    """The fields of second 60 in a minute of the day, counted around it."""
+    return b"%02d" % (minute % MINUTES_OF_A_DAY // 60), b"%02d" % (minute % 60), b"60"
+
+
+def last_fields(time, zone_text):
+    """The highest fields of a time: 23:59, or with seconds second 60 in the minute in which UTC has 23:59."""
+    if b"S" not in time:
+        return b"23", b"59"
+    return second_60_of(LAST_MINUTE + difference_in_minutes(zone_text))
+
+
 def good_dates():
     """Each form of a date with each Year setting and each pair of lists."""
     for date, years in itertools.product(DATES, YEAR_CHOICES):
@@ -125,8 +150,9 @@ def good_times():
         for zone_text in zone_texts(zone):
             yield line(b"0", type_text, time_text(time, (b"15", b"27", b"46"), b"123456789", zone_text))
         yield line(b"0", type_text, time_text(time, (b"00", b"00", b"00"), b"0", zone_texts(zone)[0], b","))
-        yield line(b"0", type_text, time_text(time, (b"23", b"59", b"60"), b"9", zone_texts(zone)[-1], b","))
-        yield line(b"0", type_text, time_text(time, (b"24", b"00", b"00"), b"0", zone_texts(zone)[-1]))
+        last = zone_texts(zone)[-1]
+        yield line(b"0", type_text, time_text(time, last_fields(time, last), b"9", last, b","))
+        yield line(b"0", type_text, time_text(time, (b"24", b"00", b"00"), b"0", last))
 
 
 def some_date_times():
@@ -255,6 +281,74 @@ def differences():
     )
     for (type_text, start), zone in itertools.product(types, wrong):
         yield line(b"0", type_text, start + zone)
+
+
+def examples_of_second_60():
+    """Second 60 "as in `05:29:60+05:30`", with Z and with differences, where #102 accepts it and where it doesn't."""
+    for zone, texts in (
+        (b"Z", (b"23:59:60Z", b"12:34:60Z", b"23:58:60Z", b"12:34:59Z")),
+        (b"LD", (b"05:29:60+05:30", b"05:30:60+05:30", b"23:59:60+00", b"00:59:60+01", b"15:58:60+15:59", b"23:59:60-00")),
+        (b"LD", (b"18:59:60-05", b"23:59:60-05", b"08:00:60-15:59", b"12:34:59-05")),
+        (b"L", (b"12:34:60", b"23:59:60")),
+    ):
+        yield from (line(b"0", time_type(b"HMS", zone), text) for text in texts)
+    yield from (line(b"0", b"TIME-OF-DAY", text) for text in (b"12:34:60", b"05:29:60"))
+    yield line(b"0", b"DATE-TIME", b"2006-06-13T12:34:60")
+
+
+def minutes_at_second_60(difference):
+    """Minutes of the day: the one in which UTC has 23:59, those next to it and an hour off, 23:59 and the one before; and
+    those that the other sign would give, of the difference or of its minutes, and the difference without these."""
+    ahead = difference_in_minutes(difference)
+    hours = ahead - int(difference[:1] + b"1") * (abs(ahead) % 60)
+    offs = (ahead, ahead - 1, ahead + 1, ahead - 60, ahead + 60, 0, -1, -ahead, hours, 2 * hours - ahead)
+    return sorted({(LAST_MINUTE + off) % MINUTES_OF_A_DAY for off in offs})
+
+
+def minutes_of_second_60():
+    """"only where local time less the difference, around the day, is 23:59": second 60 in many minutes, and one of them
+    with the seconds beside it."""
+    minutes = (0, 1, 59, 719, 754, 1379, 1380, 1438, 1439)
+    questions = [(b"LD", difference, minutes_at_second_60(difference)) for difference in DIFFERENCES_AT_SECOND_60]
+    for zone, zone_text, some in [*questions, (b"Z", b"Z", minutes), (b"L", b"", minutes)]:
+        clocks = [second_60_of(minute) for minute in some]
+        clocks += [(*clocks[1][:2], second) for second in (b"59", b"61")]
+        for clock in clocks:
+            yield line(b"0", time_type(b"HMS", zone), time_text(b"HMS", clock, zone=zone_text))
+
+
+def forms_of_second_60():
+    """Second 60 with a fraction and after a date, where #102 accepts it and at 12:34; "for a local time without one we
+    can't know and keep accepting it"."""
+    times = itertools.product((b"HMS", b"HMSF1", b"HMSF4", b"HMSF9"), (b"Z", b"+05:30", b"-05:00", b""))
+    for k, (time, zone_text) in enumerate(times):
+        zone = {b"": b"L", b"Z": b"Z"}.get(zone_text, b"LD")
+        date, years = DATES[k % 6], YEAR_CHOICES[5 * k % 8]
+        for fields in (last_fields(time, zone_text), (b"12", b"34", b"60")):
+            clock = time_text(time, fields, (b"0", b"987")[k % 2], zone_text, (b".", b",")[k // 2 % 2])
+            yield line(b"0", time_type(time, zone), clock)
+            yield line(b"0", date_time_type(date, years, time, zone), A_YEAR[years[0]] + DATE_TAILS[date] + b"T" + clock)
+
+
+def causes_at_second_60():
+    """Second 60 where it can't be, beside a year or an hour that the type doesn't hold, a date or a difference that there
+    isn't, and a zone of another form: "When several hold, the lowest number is given"."""
+    dates = ((b"0", b"2006-06-13"), (b"0", b"1066-10-14"), (b"0", b"2006-02-29"), (b"9", b"2006-06-13"),
+             (b"9", b"1999-12-31"))
+    for zone, ends in ((b"Z", (b"23:59:60Z", b"12:34:60Z", b"24:00:60Z", b"12:34:60")),
+                       (b"LD", (b"05:29:60+05:30", b"23:59:60+05:30", b"23:59:60-00", b"15:59:60+16", b"23:59:60Z"))):
+        type_text = date_time_type(b"YMD", (b"Basic",), b"HMS", zone)
+        for (limits, date), end in itertools.product(dates, ends):
+            yield line(limits, type_text, date + b"T" + end)
+        yield from (line(b"8", time_type(b"HMS", zone), end) for end in ends)
+
+
+def second_60():
+    """All of these: "Second 60 only where it can be"."""
+    yield from examples_of_second_60()
+    yield from minutes_of_second_60()
+    yield from forms_of_second_60()
+    yield from causes_at_second_60()
 
 
 def year_shapes():
@@ -741,10 +835,10 @@ def last_line():
 
 SECTIONS = (
     checked_values, good_dates, good_times, good_date_times, date_boundaries, month_boundaries, week_boundaries,
-    time_boundaries, fractions_at_hour_24, differences, year_shapes, years_in_windows, cross_table, changed_texts,
-    changed_types, every_octet, long_texts, long_types, limits_and_places, refused_types, pairs_of_lists, all_orders, rows,
-    other_lines, last_second, limited_rows, refused_rows, fields_of_rows, durations, changed_durations,
-    types_of_durations, durations_and_points, limits_on_durations, rows_of_durations, last_line,
+    time_boundaries, fractions_at_hour_24, differences, second_60, year_shapes, years_in_windows, cross_table,
+    changed_texts, changed_types, every_octet, long_texts, long_types, limits_and_places, refused_types, pairs_of_lists,
+    all_orders, rows, other_lines, last_second, limited_rows, refused_rows, fields_of_rows, durations,
+    changed_durations, types_of_durations, durations_and_points, limits_on_durations, rows_of_durations, last_line,
 )
 
 

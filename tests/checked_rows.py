@@ -1,6 +1,6 @@
 """Compares each row of the proved tables with the independent reference: the calendar's years and dates, the
 texts, settings lists, the types and their rows, the texts under types, fields, the rows of Table 2, durations, elements, unaligned
-PER, DER and the lines. Prints the first row that differs and exits 1, or prints nothing."""
+PER, DER, second 60 and the lines. Prints the first row that differs and exits 1, or prints nothing."""
 
 import re
 import sys
@@ -59,10 +59,11 @@ SETTINGS = ROOT / "crates/held_values/proofs/Laws/Holding.antt"
 SETTING = re.compile(r"^ +year (\w+) \((\w+ \d+)\) (true|false) ∷", re.M)
 SETTING_NAMES = {"basic": "Basic", "proleptic": "Proleptic", "negative": "Negative", "five": "L5"}
 
+A_DATE = r"\(Date\.(\w+) \(yearAt \((\w+ \d+)\)\)((?: \d+)*)\)"
+A_TIME = r"\(Clock\.(\w+)((?: \d+)+)\) (\d+) (\d+) \(?(Zone\.\w+|(?:ahead|behind) \d+ \d+)\)?"
+
 TIMES = ROOT / "crates/held_values/proofs/Laws/CheckedExistence.antt"
-LOCAL = re.compile(r"^ +time \(local \(Clock\.\w+((?: \d+)+)\) (\d+) (\d+)\) (true|false) ∷", re.M)
-ZONED = re.compile(r"^ +time \((ahead|behind) (\d+) (\d+)\) (true|false) ∷", re.M)
-UTC = re.compile(r"^ +time utc (true|false) ∷", re.M)
+TIME_THERE = re.compile(rf"^ +time {A_TIME} (true|false) ∷", re.M)
 
 FIELDS = ROOT / "crates/fields/proofs/Laws/Checked.antt"
 RANGED = re.compile(r'^ +ranged (\d+) (\d+) (\d+) "(\w+)" ∷', re.M)
@@ -76,8 +77,6 @@ ALL_FIELDS = (
 WIDTHS = {field.highest - field.lowest + 1: field.width for field in ALL_FIELDS}
 
 TABLE_2 = ROOT / "crates/rows/proofs/Laws/Checked.antt"
-A_DATE = r"\(Date\.(\w+) \(yearAt \((\w+ \d+)\)\)((?: \d+)*)\)"
-A_TIME = r"\(Clock\.(\w+)((?: \d+)+)\) (\d+) (\d+) \(?(Zone\.\w+|(?:ahead|behind) \d+ \d+)\)?"
 DATED = re.compile(rf'^ +(date|looseDate) YearRow\.(\w+) {A_DATE} "(\w+)" (\d+) ∷', re.M)
 TIMED = re.compile(rf'^ +(time|looseTime) {A_TIME} "(\w+)" (\d+) ∷', re.M)
 BOTH = re.compile(rf'^ +both YearRow\.(\w+) {A_DATE} {A_TIME} "(\w+)" (\d+) ∷', re.M)
@@ -124,7 +123,8 @@ CODERS = {"per": per, "der": der}
 ROOM = 128
 
 DURATION_CODINGS = ROOT / "crates/exchanges/proofs/Laws/CheckedDurations.antt"
-DURATION_VALUE = re.compile(r'^ +value "([^"]*)"\s+"([^"]*)"\s+"([^"]*)"\s+"(\w+)" (\d+)\s+"(\w+)" ∷', re.M)
+LEAP_CODINGS = ROOT / "crates/exchanges/proofs/Laws/CheckedLeaps.antt"
+SPELLED_VALUE = re.compile(r'^ +value "([^"]*)"\s+"([^"]*)"\s+"([^"]*)"\s+"(\w+)" (\d+)\s+"(\w+)" ∷', re.M)
 REFUSES = re.compile(rf'^ +refuses "([^"]*)" (\w+) {QUOTED} (\d) ∷', re.M)
 READ_UNDER = re.compile(r'^ +(per|der)Read "([^"]*)" "([^"]*)" "([^"]*)" (\d) "([^"]*)" (\d+) ∷', re.M)
 
@@ -262,25 +262,27 @@ def check_settings():
         expect(SETTINGS, f"{name} {year}", said, truth(texts.year_setting(integer(year)) == SETTING_NAMES[name]))
 
 
-def time_exists(fields, digits, fraction, zone, difference=None):
+def row_time(fields, digits, fraction, zone):
+    """A time of the tables of times and of rows."""
+    kind, *difference = zone.split()
+    if difference:
+        difference = texts.Difference(b"-" if kind == "behind" else b"+", *map(int, difference))
+    digits = texts.Fraction(int(fraction), int(digits)) if digits != "0" else None
+    return texts.Time(tuple(map(int, fields.split())), digits, "LD" if difference else kind[-1], difference or None)
+
+
+def time_exists(fields, digits, fraction, zone):
     """Whether a time exists, which no text shows where its fraction has more digits than it says."""
-    if digits > 9 or fraction >= 10**digits:
+    if int(digits) > 9 or int(fraction) >= 10 ** int(digits):
         return False
-    time = texts.Time(fields, texts.Fraction(fraction, digits) if digits else None, zone, difference)
-    return texts.value_exists(texts.Value(None, time, None))
+    return texts.value_exists(texts.Value(None, row_time(fields, digits, fraction, zone), None))
 
 
 def check_times():
     """Which times exist."""
-    local, zoned, utc = rows(TIMES, LOCAL, ZONED, UTC)
-    for fields, digits, fraction, said in local:
-        there = time_exists(tuple(map(int, fields.split())), int(digits), int(fraction), "L")
-        expect(TIMES, f"{fields} {digits} {fraction}", said, truth(there))
-    for sign, hours, minutes, said in zoned:
-        difference = texts.Difference(b"-" if sign == "behind" else b"+", int(hours), int(minutes))
-        expect(TIMES, f"{sign} {hours} {minutes}", said, truth(time_exists((12,), 0, 0, "LD", difference)))
-    for said in utc:
-        expect(TIMES, "utc", said, truth(time_exists((12,), 0, 0, "Z")))
+    (found,) = rows(TIMES, TIME_THERE)
+    for _, *time, said in found:
+        expect(TIMES, time, said, truth(time_exists(*time)))
 
 
 def taken(octets, take):
@@ -314,15 +316,6 @@ def check_fields():
 def row_date(form, year, fields):
     """A date of the table of rows."""
     return texts.Date(form, integer(year), tuple(map(int, fields.split())))
-
-
-def row_time(fields, digits, fraction, zone):
-    """A time of the table of rows."""
-    kind, *difference = zone.split()
-    if difference:
-        difference = texts.Difference(b"-" if kind == "behind" else b"+", *map(int, difference))
-    digits = texts.Fraction(int(fraction), int(digits)) if digits != "0" else None
-    return texts.Time(tuple(map(int, fields.split())), digits, "LD" if difference else kind[-1], difference or None)
 
 
 def row_type(year_row=None, form=None, clock=None, digits="0", zone=None):
@@ -441,21 +434,31 @@ def check_codings():
     check_causes(CODINGS, causes, CODING_LIMITS)
 
 
-def check_duration_codings():
-    """Durations in PER and in DER, and back; texts and types that are refused; causes; and one type's octets under another."""
-    values, refused, causes, read = rows(DURATION_CODINGS, DURATION_VALUE, REFUSES, CAUSE, READ_UNDER)
+def check_tables(table, values, refused, causes):
+    """Values in PER and in DER, and back, from any spelling; texts and types that are refused; and causes."""
     for type_text, text, canonical, octets, bits, element in values:
-        check_both_ways(DURATION_CODINGS, per, type_text, text, "0", octets, bits, canonical)
-        check_both_ways(DURATION_CODINGS, der, type_text, text, "0", element, "0", canonical)
+        check_both_ways(table, per, type_text, text, "0", octets, bits, canonical)
+        check_both_ways(table, der, type_text, text, "0", element, "0", canonical)
     for type_text, limits, text, number in refused:
         found = [coder.encode(type_text.encode(), LIMITS[limits], unquoted(text), ROOM) for coder in CODERS.values()]
-        expect(DURATION_CODINGS, f"{type_text} {limits} {text}", [(int(number), b"", 0)] * 2, found)
-    check_causes(DURATION_CODINGS, causes, LIMITS)
+        expect(table, f"{type_text} {limits} {text}", [(int(number), b"", 0)] * 2, found)
+    check_causes(table, causes, LIMITS)
+
+
+def check_duration_codings():
+    """The tables of durations, and one type's octets under another."""
+    *tables, read = rows(DURATION_CODINGS, SPELLED_VALUE, REFUSES, CAUSE, READ_UNDER)
+    check_tables(DURATION_CODINGS, *tables)
     for work, writer, text, reader, number, given, bits in read:
         sent, octets, _ = CODERS[work].encode(writer.encode(), settings.NO_LIMITS, text.encode(), ROOM)
         found = CODERS[work].decode(reader.encode(), settings.NO_LIMITS, octets, ROOM)
         said = 0, int(number), given.encode(), int(bits)
         expect(DURATION_CODINGS, f"{work} {writer} {text} {reader}", said, (sent, *found))
+
+
+def check_leap_codings():
+    """The tables of second 60."""
+    check_tables(LEAP_CODINGS, *rows(LEAP_CODINGS, SPELLED_VALUE, REFUSES, CAUSE))
 
 
 def check_lines():
@@ -480,4 +483,5 @@ if __name__ == "__main__":
     check_elements()
     check_codings()
     check_duration_codings()
+    check_leap_codings()
     check_lines()

@@ -41,7 +41,7 @@ import convert_lines  # noqa: E402
 import der  # noqa: E402
 import per  # noqa: E402
 import value_lines  # noqa: E402
-from checks import LONGEST_DURATION, ROOM, Y_BASIC, Y_L5, Y_PROLEPTIC, agree  # noqa: E402
+from checks import HMS_LD, HMS_Z, LONGEST_DURATION, ROOM, Y_BASIC, Y_L5, Y_PROLEPTIC, agree  # noqa: E402
 from settings import NO_LIMITS, Limits  # noqa: E402
 
 HEADER = (ROOT / "include/anafzir.h").read_text("utf-8")
@@ -353,6 +353,7 @@ def check_errors():
     for number, function, words in (
         (1, anafzir.encode, ("Basic=Date", "2006")), (2, anafzir.encode, (Y_BASIC + b"|" + Y_L5, "2006", "der")),
         (3, anafzir.DATE.encode, ("13.6.2006",)), (4, anafzir.DATE.encode_with_bits, ("2006-02-29",)),
+        (4, anafzir.encode, (HMS_Z, "12:34:60Z", "der")), (4, anafzir.decode, (HMS_Z, b"\x64\x5E\x00")),
         (5, anafzir.decode, (anafzir.Type("DATE", highest=2005), b"\x05\x58")),
         (6, anafzir.DATE.decode_with_bits, (b"\x05\x58\x00",)),
     ):
@@ -573,6 +574,7 @@ def check_example():
     for words in (
         [], [b"DATE"], [b"", b""], [b"DATE|DATE", b"2006-06-13"], [b"DATE\xff", b"2006-06-13"], [b"DURATION", b"P0Y0M1D", b"P1Y6M"],
         [b"Basic=Time Time=HMSF3 Local-or-UTC=LD", b"15:27:46,500+01:00", b"24:00:01.000+00"], [b"DATE", b"\xff", b"", b"\xc3\xa9"],
+        [HMS_LD, b"05:29:60+05:30", b"05:30:60+05:30", b"18:59:60-05"],
     ):
         type_text, *texts = words or [b"DURATION", b"P0Y0M1D"]
         environment = {**os.environ, "PYTHONPATH": str(FOLDER), "PYTHONUTF8": "1"}

@@ -160,9 +160,18 @@ TEXTS = (
     ("Weeks: week 01 is the one with 4 January; some years have a week 53.", date_type("YW", "Basic"), (
         ("2020-W53", "a year of 53 weeks"), ("2021-W53", "one of 52"), ("2020-53", "no `W`"),
     )),
-    ("Times: hour 24 is the end of a day, and all behind it is 0; second 60 may be in any minute.", "TIME-OF-DAY", (
-        ("24:00:00", "the end of the day"), ("24:00:01", "after it"), ("23:59:60", "a leap second"), ("15:60:00", "no minute 60"),
-        ("15:27", "no seconds"),
+    ("Times: hour 24 is the end of a day, and all behind it is 0. Second 60 is a leap second; a local time may have it in any minute,\n"
+     "since its difference is not known.", "TIME-OF-DAY", (
+        ("24:00:00", "the end of the day"), ("24:00:01", "after it"), ("23:59:60", "a leap second"), ("12:34:60", "it may be one"),
+        ("15:60:00", "no minute 60"), ("15:27", "no seconds"),
+    )),
+    ("Leap seconds of UTC: second 60 stands at the end of 23:59 alone, with any fraction.", time_type("HMS", "Z"), (
+        ("23:59:60Z", "a leap second"), ("12:34:60Z", "another minute"),
+    )),
+    ("Leap seconds with a difference: second 60 stands where the time less its difference is 23:59, around the day.",
+     time_type("HMS", "LD"), (
+        ("05:29:60+05:30", "23:59 UTC of the day before"), ("05:30:60+05:30", "00:00 UTC"), ("18:59:60-05", "23:59 UTC"),
+        ("23:59:60-05", "04:59 UTC of the next day"),
     )),
     ("Fractions: `.` or `,` and exactly n digits.", time_type("HMSF3", "L"), (
         ("15:27:46,500", "a comma is read, and not written"), ("15:27:46.5", "one digit"), ("15:27:46", "none"),
@@ -223,6 +232,7 @@ OCTETS = (
     ("unper", "DATE", "05", "they end inside a field"),
     ("unper", "TIME-OF-DAY", "FFFF80", "no field has hour 31"),
     ("unper", "DATE", "047A", "2006-02-30"),
+    ("unper", time_type("HMS", "Z"), "645E00", "`12:34:60Z`: second 60 in another minute"),
     ("unper", date_type("YMD", "Proleptic"), "0558", "2006-06-13: of another Year setting"),
     ("unper", "DATE", "0559", "the filling is not zero"),
     ("unper", "DATE", "055800", "an octet is left over"),
@@ -230,6 +240,7 @@ OCTETS = (
     ("under", "DATE", "1F20083230303630363133", "the tag of `TIME-OF-DAY`"),
     ("under", Y, "0E810432303036", "a length of two octets"),
     ("under", Y, "0E0532303036", "fewer octets than the length says"),
+    ("under", time_type("HMS", "LD"), "0E0E30353A33303A36302B30353A3330", "`05:30:60+05:30`: second 60 in another minute"),
     ("under", time_type("HMSF3", "L"), "0E0C31353A32373A34362C353030", "`15:27:46,500`: a comma"),
     ("under", time_type("HM", "LD"), "0E0B31353A32372B30313A3030", "`15:27+01:00`: minutes 00"),
     ("under", "DURATION", "1F220430593144", "`P0Y1D`: a zero component before the last"),

@@ -64,6 +64,16 @@ zones() {
     esac
 }
 
+# in_zone LOCAL ZONE-TEXT: the local time as it stands, but second 60 with Z or a difference at 23:59 UTC, by #102
+in_zone() {
+    case $1$2 in
+        *:60Z | *:60+00) echo 23:59:60 ;;
+        *:60-05:30) echo 18:29:60 ;;
+        *:60+15:59) echo 15:58:60 ;;
+        *) echo "$1" ;;
+    esac
+}
+
 vectors_of_dates() {
     for date in Y YM YMD YD YW YWD; do
         for year in Basic Proleptic Negative L5; do
@@ -84,7 +94,7 @@ vectors_of_times() {
                 set --
                 for local in $(before_fraction $time); do
                     for end in $(zones $zone); do
-                        set -- "$@" "$local$fraction${end#=}"
+                        set -- "$@" "$(in_zone "$local" "$end")$fraction${end#=}"
                     done
                 done
                 list "Basic=Time Time=$time${fraction:+F$((${#fraction} - 1))} Local-or-UTC=$zone" "$@"
@@ -103,7 +113,7 @@ vectors_of_date_times() {
             list "$type Time=H Local-or-UTC=L" "${start}15" "${start}24"
             list "$type Time=HM Local-or-UTC=Z" "${start}15:27Z" "${start}24:00Z"
             list "$type Time=HMSF3 Local-or-UTC=L" "${start}15:27:46.500"
-            list "$type Time=HMSF9 Local-or-UTC=LD" "${start}23:59:60.123456789-01:30" "${start}24:00:00.000000000+00"
+            list "$type Time=HMSF9 Local-or-UTC=LD" "${start}22:29:60.123456789-01:30" "${start}24:00:00.000000000+00"
         done
     done
 }
@@ -133,6 +143,13 @@ vectors_of_other_lists() {
     list 'Basic=Date Date=YWD Year=Basic' 2020-W53-7 2021-W52-7
 }
 
+# one leap second, in UTC, behind it and ahead of it, where the next day has begun
+vectors_of_a_leap_second() {
+    list 'Basic=Date-Time Date=YMD Year=Basic Time=HMS Local-or-UTC=Z' 2005-12-31T23:59:60Z
+    list 'Basic=Date-Time Date=YMD Year=Basic Time=HMS Local-or-UTC=LD' \
+        2005-12-31T23:59:60+00 2005-12-31T18:59:60-05 2006-01-01T05:29:60+05:30 2006-01-01T00:59:60+01
+}
+
 # the same texts under the name, whose contents 8.24.5 leaves without P, and under the settings
 vectors_of_durations() {
     set -- P1Y6M PT0.5S P1D P0M P1Y0M P0Y P0W P0D PT0H PT0M PT0S P5W P0.5W P10.25W P1.5Y P0.001M P7.1234D PT1.5H \
@@ -149,4 +166,5 @@ vectors_of_dates
 vectors_of_times
 vectors_of_date_times
 vectors_of_other_lists
+vectors_of_a_leap_second
 vectors_of_durations

@@ -79,7 +79,16 @@ time_exists({Form, N, H, M, S, F, Zone}) ->
                     l -> true;
                     z -> true;
                     {Sign, DH, DM} -> in(DH, 0, 15) andalso in(DM, 0, 59) andalso (Sign =:= $+ orelse DH > 0)
-                end.
+                end
+        andalso (S < 60 orelse Zone =:= l orelse utc(H, M, Zone) =:= {23, 59, 0}).
+
+%% The time that UTC has at a local one, on the same day or on one beside it: Erlang's own calendar takes the difference
+%% from the local time. By #102 second 60 with Z or with a difference is at 23:59 UTC alone.
+utc(H, M, z) -> {H, M, 0};
+utc(H, M, {Sign, DH, DM}) ->
+    Local = calendar:datetime_to_gregorian_seconds({{2006, 6, 13}, {H, M, 0}}),
+    {_, UTC} = calendar:gregorian_seconds_to_datetime(Local - signed(Sign, 3600 * DH + 60 * DM)),
+    UTC.
 
 %% A duration as X.690 11.9 d has it: of all components only the last one may be 0. Weeks stand alone.
 duration_exists(Components, Fraction) ->
@@ -289,30 +298,42 @@ differences() ->
     [{$-, 15, 59}, {$-, 15, 0}, {$-, 1, 0}, {$-, 1, 1}, {$-, 1, 30}, {$-, 1, 59}, {$+, 0, 0}, {$+, 0, 1}, {$+, 0, 59},
      {$+, 1, 0}, {$+, 5, 30}, {$+, 15, 0}, {$+, 15, 59}].
 
+whole_hours() -> [{Sign, H, 0} || {Sign, Low} <- [{$-, 1}, {$+, 0}], H <- lists:seq(Low, 15)].
+
 times() ->
-    [{Form, 0, H, M, S, 0, Zone} || Form <- [h, hm, hms], Zone <- zones(), {H, M, S} <- clocks(Form)]
+    [{Form, 0, H, M, S, 0, Zone} || Form <- [h, hm, hms], Zone <- zones(), {H, M, S} <- clocks(Form, Zone)]
         ++ [{h, 0, H, 0, 0, 0, l} || H <- lists:seq(0, 24)]
         ++ [{hm, 0, 12, M, 0, 0, l} || M <- [1, 15, 16, 31, 32, 33, 47, 48]]
         ++ [{hms, 0, 12, 0, S, 0, l} || S <- [1, 15, 16, 31, 32, 33, 47, 48]]
-        ++ [{hms, 0, 12, 34, 56, 0, {Sign, H, 0}} || {Sign, Low} <- [{$-, 1}, {$+, 0}], H <- lists:seq(Low, 15)]
+        ++ [{hms, 0, 12, 34, 60, 0, l}]
+        ++ [{hms, 0, 12, 34, 56, 0, Zone} || Zone <- whole_hours()]
+        ++ [{hms, 0, H, M, S, 0, Zone} || Zone <- whole_hours(), {H, M, S} <- [second_60(Zone)]]
         ++ [{Form, N, H, M, S, F, Zone} || Form <- [h, hm, hms], N <- [1, 3, 4, 9],
                                            F <- [0, 999, 1000, highest(N)], F =< highest(N),
                                            Zone <- [l, z, {$-, 15, 59}, {$-, 1, 0}, {$-, 1, 30},
                                                     {$+, 0, 0}, {$+, 0, 1}, {$+, 15, 59}],
-                                           {H, M, S} <- clocks_with_fraction(Form, F)]
+                                           {H, M, S} <- clocks_with_fraction(Form, F, Zone)]
         ++ [{hms, N, 15, 27, 46, F, Zone} || N <- lists:seq(1, 9), F <- fractions(N), Zone <- [l, z, {$-, 1, 30}]]
         ++ [{Form, N, 24, 0, 0, 0, Zone} || Form <- [h, hm, hms], N <- lists:seq(1, 9), Zone <- [l, z, {$+, 0, 0}]].
 
-clocks(h) -> [{0, 0, 0}, {15, 0, 0}, {23, 0, 0}, {24, 0, 0}];
-clocks(hm) -> [{0, 0, 0}, {0, 59, 0}, {15, 27, 0}, {23, 0, 0}, {23, 59, 0}, {24, 0, 0}];
-clocks(hms) -> [{0, 0, 0}, {0, 0, 60}, {0, 59, 0}, {15, 27, 46}, {23, 0, 0}, {23, 59, 59}, {23, 59, 60}, {24, 0, 0}].
+clocks(h, _) -> [{0, 0, 0}, {15, 0, 0}, {23, 0, 0}, {24, 0, 0}];
+clocks(hm, _) -> [{0, 0, 0}, {0, 59, 0}, {15, 27, 0}, {23, 0, 0}, {23, 59, 0}, {24, 0, 0}];
+clocks(hms, Zone) ->
+    [{0, 0, 0}, {0, 0, case Zone of l -> 60; _ -> 59 end}, {0, 59, 0}, {15, 27, 46}, {23, 0, 0}, {23, 59, 59},
+     second_60(Zone), {24, 0, 0}].
 
-clocks_with_fraction(Form, F) ->
-    [{0, 0, 0}, highest_clock(Form)] ++ [{24, 0, 0} || F =:= 0].
+clocks_with_fraction(Form, F, Zone) ->
+    [{0, 0, 0}, highest_clock(Form, Zone)] ++ [{24, 0, 0} || F =:= 0].
 
-highest_clock(h) -> {23, 0, 0};
-highest_clock(hm) -> {23, 59, 0};
-highest_clock(hms) -> {23, 59, 60}.
+highest_clock(h, _) -> {23, 0, 0};
+highest_clock(hm, _) -> {23, 59, 0};
+highest_clock(hms, Zone) -> second_60(Zone).
+
+%% Second 60 of the local minute in which UTC has 23:59.
+second_60({Sign, DH, DM}) ->
+    Local = (23 * 60 + 59 + signed(Sign, DH * 60 + DM) + 24 * 60) rem (24 * 60),
+    {Local div 60, Local rem 60, 60};
+second_60(_) -> {23, 59, 60}.
 
 %% The ends of the short fraction, of each length of the long one, and of the digits.
 fractions(N) ->
@@ -322,10 +343,10 @@ fractions(N) ->
 %% Every row of dates with every row of times; the digits of the fraction go round from 1 to 9.
 %% Then one of the longest, 14 octets, and the highest date and time of each year.
 date_times() ->
-    [{{basic, ymd, 2006, 6, 13}, {hms, 0, 15, 27, 46, 0, l}}]
+    [{{basic, ymd, 2006, 6, 13}, {hms, 0, H, M, S, 0, l}} || {H, M, S} <- [{15, 27, 46}, {12, 34, 60}]]
         ++ lists:append([date_times(K, Family, Form, Clock, Fraction, Zone)
                          || {K, {Family, Form, Clock, Fraction, Zone}} <- numbered(combinations())])
-        ++ [{{any, yd, -99999, days(-99999), none}, {hms, 9, 23, 59, 60, 999999999, {$-, 15, 0}}}]
+        ++ [{{any, yd, -99999, days(-99999), none}, {hms, 9, 8, 59, 60, 999999999, {$-, 15, 0}}}]
         ++ [{{Family, ymd, Y, 12, 31}, {hms, 0, 23, 59, 60, 0, l}} || Family <- families(), Y <- years(Family)].
 
 combinations() ->
@@ -338,9 +359,10 @@ date_times(K, Family, Form, Clock, Fraction, Zone) ->
     N = case Fraction of true -> (K + K div 18) rem 9 + 1; false -> 0 end,
     Dates = [{Family, Form, Y, A, B} || J <- [0, 1, 2, 3], Y <- [nth(K * 4 + J, years(Family))],
                                         {A, B} <- [nth(J, ends(rest(Form, Y)))]],
-    Times = [{Clock, N, H, M, S, F, zone(Zone, K * 4 + J)}
-             || {J, {{H, M, S}, F}} <- numbered([{{24, 0, 0}, 0}, {highest_clock(Clock), highest(N)},
-                                                 {{0, 0, 0}, highest(N) div 2}, {highest_clock(Clock), 0}])],
+    [Z0, Z1, Z2, Z3] = [zone(Zone, K * 4 + J) || J <- [0, 1, 2, 3]],
+    Times = [{Clock, N, H, M, S, F, Z}
+             || {{H, M, S}, F, Z} <- [{{24, 0, 0}, 0, Z0}, {highest_clock(Clock, Z1), highest(N), Z1},
+                                      {{0, 0, 0}, highest(N) div 2, Z2}, {highest_clock(Clock, Z3), 0, Z3}]],
     lists:zip(Dates, Times).
 
 ends(List) -> [hd(List), lists:last(List)].

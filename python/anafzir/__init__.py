@@ -26,7 +26,7 @@ from functools import lru_cache, partial
 from operator import index
 from typing import Any, Callable, ClassVar, Literal, NoReturn, Optional, Union
 
-__version__ = "0.1.0"
+__version__ = "0.2.0"
 
 __all__ = [
     "DATE", "DATE_TIME", "DURATION", "TIME_OF_DAY", "Type", "decode", "encode",
@@ -77,7 +77,10 @@ class BadForm(Refused):
 
 
 class NoSuchValue(Refused):
-    """There is no such date, time or difference: 30 February, 24:00:01."""
+    """There is no such date, time or difference: 30 February, 24:00:01, 12:34:60Z.
+
+    Second 60 exists at the end of 23:59 UTC alone, as in 05:29:60+05:30; a local time may have it in any minute.
+    """
 
     number, name = 4, "NO_SUCH_VALUE"
 

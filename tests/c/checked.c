@@ -68,6 +68,21 @@ static const struct {
     {"DURATION", NONE, OCTETS("PT0.000S"), OCTETS("\x03\x00\xA0\x20\x00"), OCTETS("\x1F\x22\x07" "T0.000S")},
     {"Basic=Interval Interval-type=D", NONE, OCTETS("PT0.1000S"), OCTETS("\x03\x01\x01\x04\x81\x01\xF4\x00"),
      OCTETS("\x0E\x09" "PT0.1000S")},
+    {"TIME-OF-DAY", NONE, OCTETS("12:34:60"), OCTETS("\x64\x5E\x00"), OCTETS("\x1F\x20\x06" "123460")},
+    {"Basic=Time Time=HMS Local-or-UTC=Z", NONE, OCTETS("23:59:60Z"), OCTETS("\xBF\x7E\x00"), OCTETS("\x0E\x09" "23:59:60Z")},
+    {"Basic=Time Time=HMS Local-or-UTC=LD", NONE, OCTETS("05:29:60+05:30"), OCTETS("\x2B\xBE\x68\xE8"),
+     OCTETS("\x0E\x0E" "05:29:60+05:30")},
+    {"Basic=Time Time=HMS Local-or-UTC=LD", NONE, OCTETS("18:59:60-05"), OCTETS("\x97\x7E\x14"), OCTETS("\x0E\x0B" "18:59:60-05")},
+    {"Basic=Time Time=HMS Local-or-UTC=LD", NO_24, OCTETS("23:59:60+00"), OCTETS("\xBF\x7E\x1E"),
+     OCTETS("\x0E\x0B" "23:59:60+00")},
+    {"Basic=Time Time=HMS Local-or-UTC=LD", NONE, OCTETS("15:58:60+15:59"), OCTETS("\x7F\x5E\x7D\xD0"),
+     OCTETS("\x0E\x0E" "15:58:60+15:59")},
+    {"Basic=Time Time=HMS Local-or-UTC=LD", NONE, OCTETS("08:00:60-15:59"), OCTETS("\x40\x1E\x41\xD0"),
+     OCTETS("\x0E\x0E" "08:00:60-15:59")},
+    {"Basic=Time Time=HMSF3 Local-or-UTC=LD", NONE, OCTETS("00:59:60.999+01"), OCTETS("\x07\x7E\x3E\x74\x00"),
+     OCTETS("\x0E\x0F" "00:59:60.999+01")},
+    {"Basic=Date-Time Date=Y Year=Basic Time=HMS Local-or-UTC=Z", DECADE_NO_24, OCTETS("2005T23:59:60Z"), OCTETS("\x02\xFD\xF8"),
+     OCTETS("\x0E\x0E" "2005T23:59:60Z")},
 };
 
 /* A text that is to be refused, in PER and in DER. */
@@ -106,6 +121,16 @@ static const struct {
     {"Basic=Interval Interval-type=D", NO_24, OCTETS("P01Y")},
     {"Basic=Interval Interval-type=D|Basic=Interval Interval-type=D", NONE, OCTETS("P1Y6M")},
     {"Basic=Interval Interval-type=D|Basic=Date Date=Y Year=Basic", NONE, OCTETS("P1Y6M")},
+    {"Basic=Time Time=HMS Local-or-UTC=Z", NONE, OCTETS("12:34:60Z")},
+    {"Basic=Time Time=HMS Local-or-UTC=LD", NONE, OCTETS("05:30:60+05:30")},
+    {"Basic=Time Time=HMS Local-or-UTC=LD", NONE, OCTETS("23:59:60+05:30")},
+    {"Basic=Time Time=HMS Local-or-UTC=LD", NONE, OCTETS("18:29:60+05:30")},
+    {"Basic=Time Time=HMS Local-or-UTC=LD", NONE, OCTETS("04:59:60+05:30")},
+    {"Basic=Time Time=HMS Local-or-UTC=LD", NO_24, OCTETS("18:59:60-05:30")},
+    {"Basic=Time Time=HMS Local-or-UTC=LD", NONE, OCTETS("23:59:60-00")},
+    {"Basic=Time Time=HMSF3 Local-or-UTC=LD", NONE, OCTETS("12:34:60,500+01:00")},
+    {"Basic=Date-Time Date=Y Year=Basic Time=HMS Local-or-UTC=Z", DECADE, OCTETS("1999T12:34:60Z")},
+    {"Basic=Date-Time Date=Y Year=Basic Time=HMS Local-or-UTC=Z", DECADE, OCTETS("1999T23:59:60Z")},
 };
 
 /* Octets that are to be refused. */
@@ -148,6 +173,20 @@ static const struct {
     {UNDER, "Basic=Interval Interval-type=D", NONE, OCTETS("\x0E\x06" "PT0,5S")},
     {UNDER, "DURATION", NONE, OCTETS("\x1F\x22\x04" "1Y6M\x00")},
     {UNDER, "Basic=Interval Interval-type=D", NO_24, OCTETS("\x0E\x05" "P1Y6M")},
+    {UNPER, "Basic=Time Time=HMS Local-or-UTC=Z", NONE, OCTETS("\x64\x5E\x00")},
+    {UNPER, "Basic=Time Time=HMS Local-or-UTC=Z", NONE, OCTETS("\x64\x5E\x01")},
+    {UNPER, "Basic=Time Time=HMS Local-or-UTC=Z", NONE, OCTETS("\x64\x5E\x00\x00")},
+    {UNPER, "Basic=Time Time=HMS Local-or-UTC=Z", NONE, OCTETS("\xBF\x7E\x01")},
+    {UNPER, "Basic=Time Time=HMS Local-or-UTC=Z", NONE, OCTETS("\xBF\x7E\x80")},
+    {UNPER, "Basic=Time Time=HMS Local-or-UTC=LD", NONE, OCTETS("\x2B\xDE\x68\xE8")},
+    {UNPER, "Basic=Date-Time Date=Y Year=Basic Time=HMS Local-or-UTC=Z", DECADE, OCTETS("\xBE\x99\x17\x80")},
+    {UNPER, "Basic=Date-Time Date=Y Year=Basic Time=HMS Local-or-UTC=Z", DECADE, OCTETS("\xBE\xAF\xDF\x80")},
+    {UNDER, "Basic=Time Time=HMS Local-or-UTC=Z", NONE, OCTETS("\x0E\x09" "12:34:60Z")},
+    {UNDER, "Basic=Time Time=HMS Local-or-UTC=Z", NONE, OCTETS("\x0E\x09" "12:34:60Z\x00")},
+    {UNDER, "Basic=Time Time=HMS Local-or-UTC=LD", NONE, OCTETS("\x0E\x0E" "05:30:60+05:30")},
+    {UNDER, "Basic=Time Time=HMSF3 Local-or-UTC=LD", NONE, OCTETS("\x0E\x12" "12:34:60,500+01:00")},
+    {UNDER, "Basic=Date-Time Date=Y Year=Basic Time=HMS Local-or-UTC=Z", DECADE, OCTETS("\x0E\x0E" "1999T12:34:60Z")},
+    {UNDER, "Basic=Date-Time Date=Y Year=Basic Time=HMS Local-or-UTC=Z", DECADE, OCTETS("\x0E\x0E" "1999T23:59:60Z")},
 };
 
 static void print_hex(const uint8_t *octets, size_t count)

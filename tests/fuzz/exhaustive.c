@@ -11,15 +11,15 @@
 #include <stdlib.h>
 #include <string.h>
 
-/* How far a depth goes. Of date-times only every so many-th one is tried. A type has so many good texts; all that is near them is
- * tried for so many, and all pairs of bits of an encoding for so many under a name, and under settings. Up to so many octets are
- * all tried under a name, under settings, and under settings of date-times. */
+/* How far a depth goes. Of date-times only every so many-th one is tried, by steps that come to seconds with a difference. A type has
+ * so many good texts; all that is near them is tried for so many, and all pairs of bits of an encoding for so many under a name, and
+ * under settings. Up to so many octets are all tried under a name, under settings, and under settings of date-times. */
 static const struct depth {
     int date_time_step;
     int good_texts, texts, name_pairs, list_pairs;
     size_t name_octets, list_octets, date_time_octets;
 } DEPTHS[] = {
-    {1009, 10, 1, 1, 0, 2, 1, 1},
+    {997, 10, 1, 1, 0, 2, 1, 1},
     {101, 100, 3, 3, 1, 2, 2, 2},
     {11, 300, 6, 6, 2, 3, 2, 2},
     {1, 1000, 12, 12, 2, 3, 3, 2},

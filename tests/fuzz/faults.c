@@ -380,6 +380,290 @@ static outcome decoder_refuses(struct call *c)
     return decodes(c->work) && o.number == 0 && octets[o.length - 1] == 'Z' ? NUMBER_4 : real(c);
 }
 
+/* The next ones are wrong about second 60 (#102), in both encodings and both ways alike: they ask the library for second 59, which
+ * every minute has, and put 60 there. */
+
+/* Where a text, or the contents of DER, have the seconds; 0 where there are none. Under a name's tag the contents end in them. */
+static size_t seconds_in(const uint8_t *octets, size_t length)
+{
+    const uint8_t *colon = length == 0 ? NULL : memchr(octets, ':', length);
+    size_t place = colon == NULL ? 0 : (size_t)(colon - octets) + 4;
+    if (length > 2 && octets[0] == 0x1F)
+        return length - 2;
+    return place >= 6 && place + 2 <= length && octets[place - 1] == ':' ? place : 0;
+}
+
+/* Turns so many bits up to this one: three make second 60 of second 59 and the other way round, one makes 58 of 59. */
+static void turn(uint8_t *octets, size_t last, size_t count)
+{
+    for (size_t bit = last + 1 - count; bit <= last; bit++)
+        octets[bit / 8] ^= (uint8_t)(0x80u >> bit % 8);
+}
+
+/* Whether octets of PER are decoded to so many seconds, limits aside. */
+static int has_seconds(struct call c, const uint8_t *octets, const char *seconds)
+{
+    uint8_t text[ANAFZIR_ROOM];
+    memset(&c.limits, 0, sizeof c.limits);
+    c.input = octets;
+    outcome o = real_aside(c, text);
+    size_t place = seconds_in(text, o.length);
+    return place > 0 && memcmp(text + place, seconds, 2) == 0;
+}
+
+/* Puts second 59 for second 60 into octets of PER, at the bits which make it 58 where the last one is turned. Whether it could. */
+static int put_59_in_bits(const struct call *c, uint8_t *octets)
+{
+    for (size_t last = 5; last < 8 * c->input_length; last++) {
+        turn(octets, last, 3);
+        int is_59 = has_seconds(*c, octets, "59");
+        turn(octets, last, 1);
+        int is_58 = is_59 && has_seconds(*c, octets, "58");
+        turn(octets, last, 1);
+        if (is_58)
+            return 1;
+        turn(octets, last, 3);
+    }
+    return 0;
+}
+
+/* The input with second 59 for its second 60. Whether it has one. */
+static int put_59(const struct call *c, uint8_t octets[ANAFZIR_ROOM])
+{
+    size_t place = seconds_in(c->input, c->input_length);
+    if (c->input_length == 0 || c->input_length > ANAFZIR_ROOM)
+        return 0;
+    memcpy(octets, c->input, c->input_length);
+    if (c->work == UNPER)
+        return put_59_in_bits(c, octets);
+    if (place == 0 || memcmp(octets + place, "60", 2) != 0)
+        return 0;
+    memcpy(octets + place, "59", 2);
+    return 1;
+}
+
+/* Puts second 60 for second 59 into the result of a text or of octets with second 59. */
+static void put_60(struct call c, uint8_t *given, uint8_t *result, size_t length)
+{
+    uint8_t other[ANAFZIR_ROOM];
+    size_t last = 0;
+    if (c.work != PER) {
+        memcpy(result + seconds_in(result, length), "60", 2);
+        return;
+    }
+    given[seconds_in(given, c.input_length) + 1] = '8';
+    c.input = given;
+    real_aside(c, other);
+    while (last < 8 * length && ((result[last / 8] ^ other[last / 8]) & 0x80u >> last % 8) == 0)
+        last++;
+    turn(result, last, 3);
+}
+
+/* A second 60: its minute of the local day, whether a fraction follows, Z or a sign or 0, and the difference with its sign. */
+struct leap {
+    int minute, fraction, zone, hours, minutes;
+};
+
+static struct leap leap_in(const uint8_t *text, size_t length)
+{
+    char string[ANAFZIR_ROOM + 1] = {0};
+    struct leap l = {0, 0, 0, 0, 0};
+    size_t place = seconds_in(text, length);
+    memcpy(string, text, length);
+    const char *zone = strpbrk(string + place, "Z+-");
+    l.minute = 60 * atoi(string + place - 6) + atoi(string + place - 3);
+    l.fraction = string[place + 2] == '.' || string[place + 2] == ',';
+    if (zone == NULL)
+        return l;
+    int sign = *zone == '-' ? -1 : 1;
+    l.zone = *zone;
+    l.hours = sign * atoi(zone + 1);
+    l.minutes = *zone != 'Z' && zone[3] == ':' ? sign * atoi(zone + 4) : 0;
+    return l;
+}
+
+/* The answer where second 60 is taken by another rule: the one to second 59, with 60 in its place, or 4. */
+static outcome by_rule(struct call *c, int (*taken)(const struct leap *))
+{
+    uint8_t given[ANAFZIR_ROOM], result[ANAFZIR_ROOM];
+    struct call with_59 = *c;
+    outcome o = real_aside(*c, result);
+    if ((o.number != 0 && o.number != 4 && o.number != 5) || !put_59(c, given))
+        return real(c);
+    with_59.input = given;
+    memset(&with_59.limits, 0, sizeof with_59.limits);
+    o = real_aside(with_59, result);
+    if (o.number != 0)
+        return real(c);
+    struct leap l = decodes(c->work) ? leap_in(result, o.length) : leap_in(given, c->input_length);
+    if (!taken(&l))
+        return NUMBER_4;
+    with_59.limits = c->limits;
+    o = real_aside(with_59, result);
+    if (o.number != 0 || o.length > c->room_length)
+        return o.number != 0 ? o : NUMBER_7;
+    put_60(*c, given, result, o.length);
+    memcpy(c->room, result, o.length);
+    return o;
+}
+
+/* Whether a minute is 23:59, around the day. */
+static int is_last(int minute)
+{
+    return (minute + 2 * 1440) % 1440 == 1439;
+}
+
+static int is_right(const struct leap *l)
+{
+    return l->zone == 0 || is_last(l->minute - 60 * l->hours - l->minutes);
+}
+
+static int always(const struct leap *l)
+{
+    (void)l;
+    return 1;
+}
+
+static int right_or_utc(const struct leap *l)
+{
+    return l->zone == 'Z' || is_right(l);
+}
+
+static int right_with_other_sign(const struct leap *l)
+{
+    return l->zone == 0 || is_last(l->minute + 60 * l->hours + l->minutes);
+}
+
+static int right_with_either_sign(const struct leap *l)
+{
+    return is_right(l) || right_with_other_sign(l);
+}
+
+static int right_or_a_minute_later(const struct leap *l)
+{
+    return is_right(l) || is_last(l->minute - 60 * l->hours - l->minutes - 1);
+}
+
+static int right_on_the_day(const struct leap *l)
+{
+    return l->zone == 0 || l->minute - 60 * l->hours - l->minutes == 1439;
+}
+
+static int right_by_hours(const struct leap *l)
+{
+    return l->zone == 0 || is_last(l->minute - 60 * l->hours);
+}
+
+static int right_without_the_sign_of_minutes(const struct leap *l)
+{
+    return l->zone == 0 || is_last(l->minute - 60 * l->hours - abs(l->minutes));
+}
+
+static int right_as_local_time(const struct leap *l)
+{
+    return l->zone == 0 || is_last(l->minute);
+}
+
+static int right_and_last_if_local(const struct leap *l)
+{
+    return is_right(l) && (l->zone != 0 || is_last(l->minute));
+}
+
+static int right_and_whole(const struct leap *l)
+{
+    return is_right(l) && !l->fraction;
+}
+
+static outcome second_60_in_utc(struct call *c)
+{
+    return by_rule(c, right_or_utc);
+}
+
+static outcome second_60_in_bits(struct call *c)
+{
+    return c->work == UNPER ? by_rule(c, always) : real(c);
+}
+
+static outcome second_60_in_contents(struct call *c)
+{
+    return c->work == UNDER ? by_rule(c, always) : real(c);
+}
+
+static outcome difference_added(struct call *c)
+{
+    return by_rule(c, right_with_other_sign);
+}
+
+static outcome difference_either_way(struct call *c)
+{
+    return by_rule(c, right_with_either_sign);
+}
+
+static outcome minute_later_taken(struct call *c)
+{
+    return by_rule(c, right_or_a_minute_later);
+}
+
+static outcome day_not_turned(struct call *c)
+{
+    return by_rule(c, right_on_the_day);
+}
+
+static outcome minutes_left_out(struct call *c)
+{
+    return by_rule(c, right_by_hours);
+}
+
+static outcome minutes_without_sign(struct call *c)
+{
+    return by_rule(c, right_without_the_sign_of_minutes);
+}
+
+static outcome difference_ignored(struct call *c)
+{
+    return by_rule(c, right_as_local_time);
+}
+
+static outcome local_60_refused(struct call *c)
+{
+    return by_rule(c, right_and_last_if_local);
+}
+
+static outcome fraction_of_60_refused(struct call *c)
+{
+    return by_rule(c, right_and_whole);
+}
+
+static outcome second_60_in_bits_3(struct call *c)
+{
+    uint8_t octets[ANAFZIR_ROOM];
+    outcome o = real(c);
+    return c->work == UNPER && o.number == 4 && put_59(c, octets) ? NUMBER_3 : o;
+}
+
+/* A refused second 60 has another number where second 59 has it. */
+static outcome second_60_after(struct call *c, uint32_t number)
+{
+    uint8_t given[ANAFZIR_ROOM], result[ANAFZIR_ROOM];
+    struct call with_59 = *c;
+    outcome o = real(c);
+    if (o.number != 4 || !put_59(c, given))
+        return o;
+    with_59.input = given;
+    outcome other = real_aside(with_59, result);
+    return other.number == number ? other : o;
+}
+
+static outcome second_60_after_5(struct call *c)
+{
+    return second_60_after(c, 5);
+}
+
+static outcome second_60_after_6(struct call *c)
+{
+    return second_60_after(c, 6);
+}
+
 static outcome no_return(struct call *c)
 {
     volatile int wait = has(c, "-W53");
@@ -442,6 +726,21 @@ static const struct {
     {"good-refused", "a good input is taken", good_refused},
     {"der-refuses", "a text has the same number in PER and in DER", der_refuses},
     {"decoder-refuses", "the decoder takes what the encoder writes|a good input is taken", decoder_refuses},
+    {"second-60-in-utc", "second 60 elsewhere is 4", second_60_in_utc},
+    {"second-60-in-bits", "second 60 elsewhere is 4|the encoder takes what the decoder gives", second_60_in_bits},
+    {"second-60-in-contents", "second 60 elsewhere is 4|the encoder takes what the decoder gives", second_60_in_contents},
+    {"difference-added", "second 60 elsewhere is 4|second 60 is taken where it can be|a good input is taken", difference_added},
+    {"difference-either-way", "second 60 elsewhere is 4", difference_either_way},
+    {"minute-later-taken", "second 60 elsewhere is 4", minute_later_taken},
+    {"day-not-turned", "second 60 is taken where it can be|a good input is taken", day_not_turned},
+    {"minutes-left-out", "second 60 elsewhere is 4|second 60 is taken where it can be|a good input is taken", minutes_left_out},
+    {"minutes-without-sign", "second 60 is taken where it can be|a good input is taken", minutes_without_sign},
+    {"difference-ignored", "second 60 elsewhere is 4|second 60 is taken where it can be|a good input is taken", difference_ignored},
+    {"local-60-refused", "second 60 is taken where it can be|a good input is taken", local_60_refused},
+    {"fraction-of-60-refused", "second 60 is taken where it can be|a good input is taken", fraction_of_60_refused},
+    {"second-60-in-bits-3", "second 60 elsewhere is 4", second_60_in_bits_3},
+    {"second-60-after-5", "second 60 elsewhere is 4", second_60_after_5},
+    {"second-60-after-6", "second 60 elsewhere is 4", second_60_after_6},
     {"no-return", "a call returns", no_return},
     {"trap", "a call returns", trap},
 };

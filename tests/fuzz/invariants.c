@@ -190,6 +190,117 @@ static void text_of(const struct question *q, const struct answer *result, char 
     memcpy(string, text.octets, text.outcome.length);
 }
 
+/* The minutes of a day, and the last of them, 23:59. */
+enum { DAY = 24 * 60, LAST_MINUTE = DAY - 1 };
+
+/* A value with seconds: its canonical text, where its time stands in it, and its octets. */
+struct timed {
+    char text[ANAFZIR_ROOM + 1];
+    size_t place;
+    uint8_t octets[ANAFZIR_ROOM + 1];
+    size_t length;
+    uint32_t bits;
+};
+
+/* Where a time has its Z or the sign of its difference; NULL where it is local. */
+static const char *zone_in(const char *time)
+{
+    return strpbrk(time, "Z+-");
+}
+
+/* How many minutes a time is ahead of UTC by its zone. */
+static int minutes_ahead(const char *zone)
+{
+    int hours = 0, minutes = 0;
+    sscanf(zone + 1, "%2d:%2d", &hours, &minutes);
+    return *zone == '-' ? -60 * hours - minutes : 60 * hours + minutes;
+}
+
+/* Whether a minute of the local day can have second 60 (#102): where there is a zone, it is 23:59 in UTC. */
+static int can_have_60(const char *time, int minute)
+{
+    const char *zone = zone_in(time);
+    return zone == NULL || (minute - minutes_ahead(zone) + DAY) % DAY == LAST_MINUTE;
+}
+
+/* How many bits of PER there are behind the seconds: those of a fraction, short or as a free integer, and of a difference. */
+static uint32_t bits_behind(const char *time)
+{
+    const char *zone = zone_in(time);
+    uint32_t difference = zone == NULL || *zone == 'Z' ? 0 : strchr(zone, ':') == NULL ? 6 : 12;
+    unsigned long fraction = time[8] == '.' ? strtoul(time + 9, NULL, 10) : 0;
+    if (fraction < 1000)
+        return difference + (time[8] == '.' ? 11 : 0);
+    return difference + 9 + (fraction < 1ul << 15 ? 16 : fraction < 1ul << 23 ? 24 : 32);
+}
+
+static void put_bits(uint8_t *octets, size_t place, int count, unsigned number)
+{
+    for (int i = count - 1; i >= 0; i--, place++) {
+        unsigned shift = 7 - place % 8;
+        octets[place / 8] = (uint8_t)((octets[place / 8] & ~(1u << shift)) | (number >> i & 1) << shift);
+    }
+}
+
+/* Puts second 60 of a minute in place of a value's time: in its text, and in the 17 bits of PER or the contents of DER, which
+ * have no colons and end in the time under a name's tag. */
+static void put_second_60(struct timed *v, enum work work, int minute)
+{
+    char *time = v->text + v->place;
+    const uint8_t digits[] = {'0' + minute / 600, '0' + minute / 60 % 10, '0' + minute % 60 / 10, '0' + minute % 10, '6', '0'};
+    for (size_t i = 0; i < 6; i++) {
+        time[i + i / 2] = (char)digits[i];
+        if (!in_per(work))
+            v->octets[v->octets[0] == 0x0E ? 2 + v->place + i + i / 2 : v->length - 6 + i] = digits[i];
+    }
+    if (in_per(work))
+        put_bits(v->octets, v->bits - bits_behind(time) - 17, 17, (unsigned)(minute / 60 << 12 | minute % 60 << 6 | 60));
+}
+
+/* Second 60 of a minute in place of a value's time: its text and its octets have the number of the limits where it exists, and 4
+ * otherwise, which comes before that of an octet left over. */
+static void check_second_60(const struct question *q, struct timed v, int minute)
+{
+    enum work encode = decodes(q->work) ? back_from(q->work) : q->work;
+    struct answer a;
+    put_second_60(&v, q->work, minute);
+    int exists = can_have_60(v.text + v.place, minute);
+    uint32_t limited = limited_number(&q->limits, v.text), number = exists || limited == 1 ? limited : 4;
+    const char *what = exists ? "second 60 is taken where it can be" : "second 60 elsewhere is 4";
+    next_step("second 60 in the text");
+    ask_other(q, encode, (const uint8_t *)v.text, strlen(v.text), &a);
+    must(a.outcome.number == number && (number != 0 || same_octets(&a, v.octets, v.length)), what);
+    next_step("second 60 in the octets");
+    ask_other(q, back_from(encode), v.octets, v.length, &a);
+    must(a.outcome.number == number && (number != 0 || same_octets(&a, (const uint8_t *)v.text, strlen(v.text))), what);
+    if (exists)
+        return;
+    next_step("second 60 in the octets, and an octet more");
+    v.octets[v.length] = 0;
+    ask_other(q, back_from(encode), v.octets, v.length + 1, &a);
+    must(a.outcome.number == number, what);
+}
+
+/* Second 60 in place of the time of a value that the type has without limits: of its own minute, of 23:59, of the one that is 23:59
+ * in UTC, and of those that a wrong sign, a lost part or an error by one gives. */
+static void check_seconds(const struct question *q, const struct answer *result, const char *text)
+{
+    const char *time = time_in(text);
+    struct timed v = {{0}, 0, {0}, decodes(q->work) ? q->input_length : result->outcome.length, result->outcome.bits};
+    if (time == NULL || time[2] != ':' || time[5] != ':')
+        return;
+    must(strlen(text) + 2 <= ANAFZIR_ROOM && v.length <= ANAFZIR_ROOM, "no result is longer than ANAFZIR_ROOM");
+    must(in_per(q->work) ? v.bits >= bits_behind(time) + 17 : v.length >= strlen(time), "the octets have the whole time");
+    strcpy(v.text, text);
+    v.place = (size_t)(time - text);
+    memcpy(v.octets, decodes(q->work) ? q->input : result->octets, v.length);
+    int own = atoi(time) * 60 + atoi(time + 3), zoned = zone_in(time) != NULL, ahead = zoned ? minutes_ahead(zone_in(time)) : 0;
+    const int minutes[] = {own, LAST_MINUTE, LAST_MINUTE + ahead, LAST_MINUTE - ahead, LAST_MINUTE + ahead / 60 * 60,
+                           DAY + ahead, LAST_MINUTE + ahead - 1, LAST_MINUTE + ahead - 60, LAST_MINUTE + ahead + 60};
+    for (size_t i = 0; i < (zoned ? sizeof minutes / sizeof *minutes : 2); i++)
+        check_second_60(q, v, (minutes[i] + DAY) % DAY);
+}
+
 /* Limits take away the values that they say, and change nothing else. */
 static void check_limits(const struct question *q, const struct answer *full)
 {
@@ -208,6 +319,17 @@ static void check_limits(const struct question *q, const struct answer *full)
     text_of(&free, &a, text);
     must(number == limited_number(&q->limits, text), "limits have the number that they say");
     must(number != 0 || same(full, &a), "what limits leave has the same answer");
+    check_seconds(q, &a, text);
+}
+
+static void check_without_limits(const struct question *q, const struct answer *full)
+{
+    char text[ANAFZIR_ROOM + 1];
+    must(!q->good || full->outcome.number == 0, "a good input is taken");
+    if (full->outcome.number != 0)
+        return;
+    text_of(q, full, text);
+    check_seconds(q, full, text);
 }
 
 static int has_limits(const struct anafzir_limits *l)
@@ -229,7 +351,7 @@ static void check_full(const struct question *q, const struct answer *full)
     if (has_limits(&q->limits))
         check_limits(q, full);
     else
-        must(!q->good || full->outcome.number == 0, "a good input is taken");
+        check_without_limits(q, full);
 }
 
 uint32_t check(const struct question *q)

@@ -75,8 +75,10 @@ static void add_text(struct text *t, const char *text)
 static void add_number(struct text *t, int digits, uint32_t number)
 {
     char text[16];
-    snprintf(text, sizeof text, "%0*lu", digits, (unsigned long)number);
-    add_text(t, text);
+    size_t place = sizeof text;
+    for (; place > 0 && (digits > 0 || number > 0); digits--, number /= 10)
+        text[--place] = (char)('0' + number % 10);
+    add(t, text + place, sizeof text - place);
 }
 
 static void set_date(struct settings *t, int number)
@@ -322,31 +324,67 @@ static void add_fraction(struct text *out, struct source *s, int digits, int zer
     add_number(out, digits, zero ? 0 : any_number(s, digits));
 }
 
-static void add_difference(struct text *out, struct source *s)
+/* A difference to UTC, and whether its minutes stand in the text, which they need not where they are 0. */
+struct difference {
+    int negative, with_minutes;
+    uint32_t hours, minutes;
+};
+
+static struct difference any_difference(struct source *s)
 {
-    int negative = below(s, 2) == 1;
-    add_text(out, negative ? "-" : "+");
-    add_number(out, 2, negative ? 1 + below(s, 15) : below(s, 16));
-    if (below(s, 2) == 0)
+    struct difference d = {below(s, 2) == 1, 0, 0, 0};
+    d.hours = d.negative ? 1 + below(s, 15) : below(s, 16);
+    d.with_minutes = below(s, 2) == 1;
+    if (d.with_minutes && below(s, 4) > 0)
+        d.minutes = below(s, 60);
+    return d;
+}
+
+static void add_difference(struct text *out, const struct difference *d)
+{
+    add_text(out, d->negative ? "-" : "+");
+    add_number(out, 2, d->hours);
+    if (!d->with_minutes)
         return;
     add_text(out, ":");
-    add_number(out, 2, below(s, 4) == 0 ? 0 : below(s, 60));
+    add_number(out, 2, d->minutes);
+}
+
+/* The minute of the local day that has second 60 (#102): it is 23:59 in UTC, and later or earlier here by the difference. */
+static uint32_t leap_minute(const struct difference *d)
+{
+    enum { DAY = 24 * 60 };
+    uint32_t minutes = d->hours * 60 + d->minutes;
+    return (DAY - 1 + (d->negative ? DAY - minutes : minutes)) % DAY;
+}
+
+/* Hours, minutes and seconds: the end of the day, second 60 where it can be, or another time. */
+static void any_clock(const struct settings *t, struct source *s, const struct difference *d, uint32_t clock[3])
+{
+    uint32_t kind = below(s, 8), minute = below(s, 24 * 60);
+    if (kind == 6 && t->zone > 0)
+        minute = leap_minute(d);
+    clock[0] = kind == 7 ? 24 : minute / 60;
+    clock[1] = kind == 7 ? 0 : minute % 60;
+    clock[2] = kind == 7 ? 0 : kind == 6 ? 60 : below(s, 60);
 }
 
 static void add_time(const struct settings *t, struct source *s, struct text *out)
 {
-    static const uint32_t BOUNDS[] = {24, 60, 61};
-    int midnight = below(s, 8) == 7;
-    add_number(out, 2, midnight ? 24 : below(s, 24));
-    for (int field = 1; field <= t->time; field++) {
-        add_text(out, ":");
-        add_number(out, 2, midnight ? 0 : below(s, BOUNDS[field]));
+    struct difference d = {0, 0, 0, 0};
+    uint32_t clock[3];
+    if (t->zone == 2)
+        d = any_difference(s);
+    any_clock(t, s, &d, clock);
+    for (int field = 0; field <= t->time; field++) {
+        add_text(out, field > 0 ? ":" : "");
+        add_number(out, 2, clock[field]);
     }
-    add_fraction(out, s, t->digits, midnight);
+    add_fraction(out, s, t->digits, clock[0] == 24);
     if (t->zone == 1)
         add_text(out, "Z");
     if (t->zone == 2)
-        add_difference(out, s);
+        add_difference(out, &d);
 }
 
 static void add_component(struct text *out, struct source *s, const char *letter)

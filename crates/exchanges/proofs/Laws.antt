@@ -3,5 +3,7 @@ pub mod Exchanges
 pub mod Causes
 pub mod Results
 pub mod CheckedTexts
+pub mod CheckedTables
 pub mod Checked
 pub mod CheckedDurations
+pub mod CheckedLeaps

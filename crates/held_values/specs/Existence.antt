@@ -1,5 +1,5 @@
 -- "What exists": times, differences and values. Which dates exist is the calendar's.
-use Prim.Native.Nat.{ℕ, _^_}
+use Prim.Native.Nat.{ℕ, _+_, _-_, _*_, _%_, _^_}
 use mathlib.Core.Bool.{Bool, true, cond, _&&_}
 use lib.Dec.{leb, ltb, eqb}
 use Rattle.calendar.specs.Dates.{existsOf}
@@ -27,7 +27,7 @@ secondsOf (Clock.H hours) = 0
 secondsOf (Clock.HM hours minutes) = 0
 secondsOf (Clock.HMS hours minutes seconds) = seconds
 
--- "Hours 0 to 24; at 24 all smaller fields and the fraction are 0. Minutes 0 to 59. Seconds 0 to 60, second 60 in any minute."
+-- "Hours 0 to 24; at 24 all smaller fields and the fraction are 0. Minutes 0 to 59. Seconds 0 to 60": second 60 only where `existsLeap` has it.
 unfoldable pub existsClock : ℕ → ℕ → ℕ → ℕ → Bool
 existsClock hours minutes seconds fraction =
     cond (eqb hours 24) (eqb minutes 0 && eqb seconds 0 && eqb fraction 0) (leb hours 23 && leb minutes 59 && leb seconds 60)
@@ -46,12 +46,37 @@ existsZone Zone.L = true
 existsZone Zone.Z = true
 existsZone (Zone.LD difference) = existsDifference difference
 
--- A time exists where its clock, its fraction and its zone do.
+-- #102, "UTC puts a leap second at the end of 23:59 UTC": the minute of the day that an hour and a minute are, and how many a day has.
+abbrev pub minuteOf : ℕ → ℕ → ℕ
+minuteOf hours minutes = hours * 60 + minutes
+
+abbrev pub dayMinutes : ℕ
+dayMinutes = 1440
+
+-- "local time less the difference, around the day": a difference behind UTC is less than 0.
+unfoldable pub lessDifference : ℕ → Difference → ℕ
+lessDifference local difference =
+    cond (difference .behind) ((local + minuteOf (difference .hours) (difference .minutes)) % dayMinutes)
+    ((local + (dayMinutes - minuteOf (difference .hours) (difference .minutes) % dayMinutes)) % dayMinutes)
+
+-- "with Z, second 60 is accepted only at 23:59; with a difference, only where local time less the difference, around the day, is 23:59 ..; for a
+-- local time without one we can't know and keep accepting it."
+abbrev pub lastMinute : ℕ → Zone → Bool
+lastMinute local Zone.L = true
+lastMinute local Zone.Z = eqb local (minuteOf 23 59)
+lastMinute local (Zone.LD difference) = eqb (lessDifference local difference) (minuteOf 23 59)
+
+-- All other seconds are in any minute. The zone is an argument of its own, since a time may be judged by another's difference.
+unfoldable pub existsLeap : ℕ → ℕ → ℕ → Zone → Bool
+existsLeap hours minutes seconds zone = cond (eqb seconds 60) (lastMinute (minuteOf hours minutes) zone) true
+
+-- A time exists where its clock, its fraction and its zone do, and a second 60 is where it can be.
 unfoldable pub existsTime : Time → Bool
 existsTime time =
     existsClock (hoursOf (time .clock)) (minutesOf (time .clock)) (secondsOf (time .clock)) (time .fraction)
     && existsFraction (time .digits) (time .fraction)
     && existsZone (time .zone)
+    && existsLeap (hoursOf (time .clock)) (minutesOf (time .clock)) (secondsOf (time .clock)) (time .zone)
 
 -- "A value is a date, a time, or a date with a time".
 abbrev pub existsValue : Value → Bool

@@ -5,23 +5,16 @@ use mathlib.Core.Bool.{_&&_, Bool, true, false}
 use mathlib.Core.List.{_∷_, List, []}
 use Prim.Native.Nat.{ℕ}
 use Prim.Native.String.{String}
-use lib.Dec.{eqb}
-use lib.ListN.{replicate}
 use Rattle.octets.specs.Octets.{bytes}
 use Rattle.answers.proofs.Laws.Quoted.{hex}
-use Rattle.answers.specs.Outcomes.{Answer, done, refused, outcomeOf}
-use Rattle.answers.specs.Refusals.{numberOf}
+use Rattle.answers.specs.Outcomes.{Answer, done, refused}
 use Rattle.types.specs.Types.{noLimits}
-use Rattle.types.specs.declared.types.Limits.{Limits}
 use Rattle.type_texts.proofs.Laws.CheckedTypes.{bothLimits, from2000, noHour24, noYears}
 use Rattle.exchanges.specs.declared.entries.Entry.{Entry}
-use Rattle.exchanges.proofs.Laws.Checked.{answers, computed}
+use Rattle.exchanges.proofs.Laws.CheckedTables.{Cause, Refused, Row, allCaused, allRefused, allRight, answers, bothWays, computed, derCause, numberGiven}
+use Rattle.exchanges.proofs.Laws.CheckedTables.{perCause, refusedBy, refuses, value}
 
 -- ---- values
-
--- a type's text, a value's text, its canonical text, the octets in PER, their bit count, and the octets in DER
-data Row : Type 0 where
-  value : String → String → String → String → ℕ → String → Row
 
 values : List Row
 values =
@@ -260,19 +253,6 @@ ranges =
     value "DURATION" "P999999999,999999999W" "P999999999.999999999W" "21821DCD64FFC042608773593FE0" 107 "1F22143939393939393939392E39393939393939393957" ∷
     []
 
--- Whether a text gives these octets under a type's text, and they give the canonical text.
-bothWays : Entry → Entry → String → String → String → String → ℕ → Bool
-bothWays write read s text canonical octets count =
-    answers 0 (hex octets) count (computed write (bytes s) noLimits (bytes text))
-    && answers 0 (bytes canonical) count (computed read (bytes s) noLimits (hex octets))
-
-allRight : List Row → Bool
-allRight [] = true
-allRight (value s text canonical octets count element ∷ l) =
-    bothWays Entry.PerEncode Entry.PerDecode s text canonical octets count
-    && bothWays Entry.DerEncode Entry.DerDecode s text canonical element 0
-    && allRight l
-
 -- Components, zero ones among them, by 34 bis.3.6 of X.680, 11.9 d of X.690 and 28 bis.6.1 of X.691.
 durations-checked : allRight values ≡ true
 unfolding hex values answers bothWays allRight computed
@@ -289,10 +269,6 @@ unfolding hex ranges answers bothWays allRight computed
 ranges-checked = refl
 
 -- ---- texts and types that are refused
-
--- a type's text with its limits, a text, and the number that encoding it in PER and in DER gives
-data Refused : Type 0 where
-  refuses : String → Limits → String → ℕ → Refused
 
 texts : List Refused
 texts =
@@ -596,18 +572,6 @@ types =
     refuses "Basic=Interval Interval-type=D|Basic=Date Date=Y Year=Basic" noYears "P01D" 1 ∷
     []
 
--- Whether an answer is this refusal.
-refusedBy : ℕ → Answer → Bool
-refusedBy number (done result bits) = false
-refusedBy number (refused why) = eqb number (numberOf why)
-
-allRefused : List Refused → Bool
-allRefused [] = true
-allRefused (refuses s limits text number ∷ l) =
-    refusedBy number (computed Entry.PerEncode (bytes s) limits (bytes text))
-    && refusedBy number (computed Entry.DerEncode (bytes s) limits (bytes text))
-    && allRefused l
-
 -- Texts that are no duration's, and texts of the other kind.
 texts-refused-checked : allRefused texts ≡ true
 unfolding texts refusedBy allRefused computed
@@ -619,11 +583,6 @@ unfolding types refusedBy allRefused computed
 types-refused-checked = refl
 
 -- ---- each cause, and each pair of causes
-
--- a type's text with its limits, octets, the length of the lent room, and the number that decoding them from PER or from DER gives
-data Cause : Type 0 where
-  perCause : String → Limits → String → ℕ → ℕ → Cause
-  derCause : String → Limits → String → ℕ → ℕ → Cause
 
 perCauses : List Cause
 perCauses =
@@ -1099,15 +1058,6 @@ derCauses =
     derCause "Basic=Interval Interval-type=D" from2000 "0E05503159364D" 80 1 ∷
     derCause "Basic=Interval Interval-type=D" noHour24 "0E05503159364D" 80 1 ∷
     []
-
--- The number of what an entry point makes of octets, with so much room.
-numberGiven : Entry → String → Limits → String → ℕ → ℕ
-numberGiven read s limits octets room = outcomeOf (computed read (bytes s) limits (hex octets)) (replicate room 0) .number
-
-allCaused : List Cause → Bool
-allCaused [] = true
-allCaused (perCause s limits octets room number ∷ l) = eqb (numberGiven Entry.PerDecode s limits octets room) number && allCaused l
-allCaused (derCause s limits octets room number ∷ l) = eqb (numberGiven Entry.DerDecode s limits octets room) number && allCaused l
 
 -- Each cause that octets of PER meet, and the lower number of each pair.
 per-causes-checked : allCaused perCauses ≡ true

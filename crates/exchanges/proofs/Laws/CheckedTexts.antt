@@ -38,7 +38,7 @@ use Rattle.durations.specs.Parts.{anyPresent, count, lastIn, numbers, ofLast, p
 use Rattle.durations.specs.Texts.{fractionLength, getDuration, getEnd, getNumber, getPart, getParts, getPresent, getTimes, madeCanonical, needless}
 use Rattle.durations.specs.Texts.{numberDigits, putDuration, putNumber, putPart, putParts, putTimes, readDuration, renderDuration}
 use Rattle.held_values.specs.Admission.{admissionNumber, admitted, judged}
-use Rattle.held_values.specs.Existence.{existsClock, existsDifference, existsFraction, existsTime}
+use Rattle.held_values.specs.Existence.{existsClock, existsDifference, existsFraction, existsLeap, existsTime, lessDifference}
 use Rattle.held_values.specs.Forms.{sameDateForm, sameTimeForm}
 use Rattle.held_values.specs.Holding.{admitsDate, admitsTime, between, holdsOf, inType}
 use Rattle.held_values.specs.declared.admission.Admission.{Admission}
@@ -236,24 +236,23 @@ allRight (row s text number canonical ∷ l) = isRight (typeOf noLimits (bytes s
 allRight (under s limits text number canonical ∷ l) = isRight (typeOf limits (bytes s)) (bytes text) number canonical && allRight l
 
 texts-checked : allRight rows ≡ true
-unfolding rows numberIn textAfter textRead textIn isRight allRight upTo quotient remainder divisible monthLengthOf daysOfYears newYear weekOf weekOneOf weeksOf
-    astronomicalOf yearAt leapOf yearLengthOf putAfter putDate getWeek getAfter getDate putDigits getDigits getField leading render getValue readUpTo putClock
-    getAfterHours getClock putFraction getFraction putZone getMinutes getDifference getZone putTime getTime sizeIn yearDigits yearText signedFits getSigned
-    getYear splitOn addPair addPairs datedList timedList complete completed listOf eqList placeFrom fractionNumber pairOf dateAt clockAt zoneAt listsOf
-    sameButYear yearFamily oneRow equalLists allOf distinct usable member yearsOf timeAt listType joined typeOf placed limitedTo judged admitted existsClock
-    pointType existsFraction existsDifference existsTime sameDateForm sameTimeForm between admitsDate admitsTime inType holdsOf intervalList durationOf
-    shown spellable anyPresent count lastIn numbers ofLast partAt wellMade fractionLength getDuration getEnd getNumber getPart getParts getPresent getTimes
-    needless numberDigits putDuration putNumber putPart putParts putTimes readDuration renderDuration
+unfolding rows numberIn textAfter textRead textIn isRight allRight upTo quotient remainder divisible monthLengthOf daysOfYears newYear weekOf weekOneOf
+    weeksOf astronomicalOf yearAt leapOf yearLengthOf putAfter putDate getWeek getAfter getDate putDigits getDigits getField leading render getValue readUpTo
+    putClock getAfterHours getClock putFraction getFraction putZone getMinutes getDifference getZone putTime getTime sizeIn yearDigits yearText signedFits
+    getSigned getYear splitOn addPair addPairs datedList timedList complete completed listOf eqList placeFrom fractionNumber pairOf dateAt clockAt zoneAt
+    listsOf sameButYear yearFamily oneRow equalLists allOf distinct usable member yearsOf timeAt listType joined typeOf placed limitedTo judged admitted
+    existsClock pointType existsFraction existsDifference lessDifference existsLeap existsTime sameDateForm sameTimeForm between admitsDate admitsTime inType
+    holdsOf intervalList durationOf shown spellable anyPresent count lastIn numbers ofLast partAt wellMade fractionLength getDuration getEnd getNumber getPart
+    getParts getPresent getTimes needless numberDigits putDuration putNumber putPart putParts putTimes readDuration renderDuration
 texts-checked = refl
 
 limits-checked : allRight limited ≡ true
-unfolding limited early from1500 numberIn textAfter textRead textIn isRight allRight upTo quotient remainder divisible monthLengthOf daysOfYears newYear weekOf
-    weekOneOf weeksOf astronomicalOf yearAt leapOf yearLengthOf putAfter putDate getWeek getAfter getDate putDigits getDigits getField leading render getValue
-    readUpTo putClock getAfterHours getClock putFraction getFraction putZone getMinutes getDifference getZone putTime getTime sizeIn yearDigits yearText
-    signedFits getSigned getYear splitOn addPair addPairs datedList timedList complete completed listOf eqList placeFrom fractionNumber pairOf dateAt clockAt
-    zoneAt listsOf sameButYear yearFamily oneRow equalLists allOf distinct usable member yearsOf timeAt listType pointType joined typeOf placed limitedTo judged
-    admitted existsClock existsFraction existsDifference existsTime sameDateForm sameTimeForm between admitsDate admitsTime inType holdsOf
-    intervalList durationOf
-    shown spellable anyPresent count lastIn numbers ofLast partAt wellMade fractionLength getDuration getEnd getNumber getPart getParts getPresent getTimes
-    needless numberDigits putDuration putNumber putPart putParts putTimes readDuration renderDuration
+unfolding limited early from1500 numberIn textAfter textRead textIn isRight allRight upTo quotient remainder divisible monthLengthOf daysOfYears newYear
+    weekOf weekOneOf weeksOf astronomicalOf yearAt leapOf yearLengthOf putAfter putDate getWeek getAfter getDate putDigits getDigits getField leading render
+    getValue readUpTo putClock getAfterHours getClock putFraction getFraction putZone getMinutes getDifference getZone putTime getTime sizeIn yearDigits
+    yearText signedFits getSigned getYear splitOn addPair addPairs datedList timedList complete completed listOf eqList placeFrom fractionNumber pairOf dateAt
+    clockAt zoneAt listsOf sameButYear yearFamily oneRow equalLists allOf distinct usable member yearsOf timeAt listType pointType joined typeOf placed
+    limitedTo judged admitted existsClock existsFraction existsDifference lessDifference existsLeap existsTime sameDateForm sameTimeForm between admitsDate
+    admitsTime inType holdsOf intervalList durationOf shown spellable anyPresent count lastIn numbers ofLast partAt wellMade fractionLength getDuration getEnd
+    getNumber getPart getParts getPresent getTimes needless numberDigits putDuration putNumber putPart putParts putTimes readDuration renderDuration
 limits-checked = refl

@@ -9,7 +9,7 @@ use Rattle.octets.proofs.Laws.Cases.{both}
 use Rattle.texts.specs.declared.values.Difference.{Difference}
 use Rattle.texts.specs.declared.values.Zone.{Zone}
 use Rattle.texts.specs.declared.values.Time.{Time}
-use Rattle.held_values.specs.Existence.{hoursOf, minutesOf, secondsOf, existsClock, existsFraction, existsDifference, existsZone, existsTime}
+use Rattle.held_values.specs.Existence.{hoursOf, minutesOf, secondsOf, existsClock, existsFraction, existsDifference, existsZone, existsLeap, existsTime}
 
 -- what three joined tests say
 pub three : (a b d : Bool) → (a && b && d) ≡ true → (a ≡ true) × (b ≡ true) × (d ≡ true)
@@ -17,6 +17,13 @@ three a b d e =
     let p = both (a && b) d e in
     let q = both a b (p .0) in
     (q .0, q .1, p .1)
+
+-- what four of them say
+pub four : (a b d f : Bool) → (a && b && d && f) ≡ true → (a ≡ true) × (b ≡ true) × (d ≡ true) × (f ≡ true)
+four a b d f e =
+    let p = both (a && b && d) f e in
+    let q = three a b d (p .0) in
+    (q .0, q .1, q .2, p .1)
 
 -- At hour 24 all smaller fields and the fraction are 0.
 pub hour-24 : (minutes seconds fraction : ℕ) → existsClock 24 minutes seconds fraction ≡ true → (minutes ≡ 0) × (seconds ≡ 0) × (fraction ≡ 0)
@@ -67,6 +74,18 @@ zone-range Zone.L e = tt
 zone-range Zone.Z e = tt
 zone-range (Zone.LD difference) e = difference-range difference e
 
+-- What existing says of each of a time's parts.
+pub parts-exist : (time : Time) → existsTime time ≡ true →
+    (existsClock (hoursOf (time .clock)) (minutesOf (time .clock)) (secondsOf (time .clock)) (time .fraction) ≡ true)
+    × (existsFraction (time .digits) (time .fraction) ≡ true)
+    × (existsZone (time .zone) ≡ true)
+    × (existsLeap (hoursOf (time .clock)) (minutesOf (time .clock)) (secondsOf (time .clock)) (time .zone) ≡ true)
+unfolding existsTime
+parts-exist time e =
+    let clock = existsClock (hoursOf (time .clock)) (minutesOf (time .clock)) (secondsOf (time .clock)) (time .fraction) in
+    let leap = existsLeap (hoursOf (time .clock)) (minutesOf (time .clock)) (secondsOf (time .clock)) (time .zone) in
+    four clock (existsFraction (time .digits) (time .fraction)) (existsZone (time .zone)) leap e
+
 -- The range that each part of an existing time lies in.
 pub record TimeInRange (time : Time) : Type 0 where
   pub hours : hoursOf (time .clock) ≤ 24
@@ -77,12 +96,11 @@ pub record TimeInRange (time : Time) : Type 0 where
   pub zone : ZoneInRange (time .zone)
 
 pub time-range : (time : Time) → existsTime time ≡ true → TimeInRange time
-unfolding existsTime
 time-range time e =
     let hours = hoursOf (time .clock) in
     let minutes = minutesOf (time .clock) in
     let seconds = secondsOf (time .clock) in
-    let p = three (existsClock hours minutes seconds (time .fraction)) (existsFraction (time .digits) (time .fraction)) (existsZone (time .zone)) e in
+    let p = parts-exist time e in
     let k = clock-range hours minutes seconds (time .fraction) (p .0) in
     let f = fraction-range (time .digits) (time .fraction) (p .1) in
     record { hours = k .0; minutes = k .1; seconds = k .2; digits = f .0; fraction = f .1; zone = zone-range (time .zone) (p .2) }

@@ -24,7 +24,7 @@ use Rattle.type_texts.specs.TypeTexts.{allOf, distinct, equalLists, joined, lis
 use Rattle.type_texts.specs.TypeTexts.{yearFamily, yearsOf}
 use Rattle.types.specs.AnyTypes.{limitedTo}
 use Rattle.types.specs.Types.{placed}
-use Rattle.held_values.specs.Existence.{existsClock, existsDifference, existsFraction, existsTime}
+use Rattle.held_values.specs.Existence.{existsClock, existsDifference, existsFraction, existsLeap, existsTime, lessDifference}
 use Rattle.held_values.specs.Forms.{sameDateForm, sameTimeForm}
 use Rattle.held_values.specs.Holding.{admitsDate, admitsTime, between, inType}
 use Rattle.fields.specs.Bits.{bitsOf, numberIn, octetsOf, packed, unpacked}
@@ -61,6 +61,9 @@ rows =
     line "per;DATE;2006-06-13" 0 "0 0558" ∷
     line "der;DATE;2006-06-13" 0 "0 1F1F083230303630363133" ∷
     line "per;DATE;2006-02-29" 0 "4" ∷
+    -- #102's own
+    line "per;Basic=Time Time=HMS Local-or-UTC=Z;12:34:60Z" 0 "4" ∷
+    line "der;Basic=Time Time=HMS Local-or-UTC=LD;05:29:60+05:30" 0 "0 0E0E30353A32393A36302B30353A3330" ∷
     -- hex input, of either case
     line "unper;DATE;0558" 0 "0 2006-06-13" ∷
     line "unper;DATE;bfC780" 0 "0 2004-02-29" ∷
@@ -107,16 +110,16 @@ unfolding upTo quotient remainder divisible monthLengthOf daysOfYears newYear we
     putDate getWeek getAfter getDate putDigits getDigits getField leading render getValue readUpTo putClock getAfterHours getClock putFraction getFraction
     putZone getMinutes getDifference getZone putTime getTime sizeIn yearDigits yearText signedFits getSigned getYear splitOn addPair addPairs datedList
     timedList complete completed listOf eqList placeFrom fractionNumber pairOf dateAt clockAt zoneAt listsOf sameButYear yearFamily oneRow equalLists allOf
-    distinct usable member yearsOf timeAt listType pointType joined typeOf placed limitedTo existsClock existsFraction existsDifference existsTime sameDateForm
-    sameTimeForm between admitsDate admitsTime inType bitsOf numberIn packed octetsOf unpacked half within fewest twos fromTwos binaryDigits width fieldBits
-    layout fieldWidth bitCount _>>=_ aRanged aFree require readBits readRanged readFree run otherYear choiceOfYear yearFields dayFields dateFields clockFields
-    longFraction fractionFields hoursField differenceFields zoneFields timeFields fieldsOf readChoice readYear readDay readDate readClock natural readExtended
-    readFraction readMinutes differenceAt readZone readTime readValue readOctets judgedAs judgedText encoded compared judgedOctets decoded encodingOf countOf
-    octetsFor spanTo without contentsOf element elementOf allDigits digitsOnly separated readElement hexDigit toHex hexNumber fromHex worked cutAgain replyOf
-    answerOf entryNamed intervalList allSmall allZero durationOf endsAt existsDuration shown spellable weeksAlone durationFields extended fractionPart
-    longNumber numberFields presences count anyPresent lastIn numbers ofLast partAt wellMade Durations.readExtended durationInOctets endedBy
-    readAfter readFields readNumbers readPresences readTail fractionLength getDuration getEnd getNumber getPart getParts getPresent getTimes needless
-    numberDigits putDuration putNumber putPart putParts putTimes readDuration renderDuration readDurationElement
+    distinct usable member yearsOf timeAt listType pointType joined typeOf placed limitedTo existsClock existsFraction existsDifference lessDifference
+    existsLeap existsTime sameDateForm sameTimeForm between admitsDate admitsTime inType bitsOf numberIn packed octetsOf unpacked half within fewest twos
+    fromTwos binaryDigits width fieldBits layout fieldWidth bitCount _>>=_ aRanged aFree require readBits readRanged readFree run otherYear choiceOfYear
+    yearFields dayFields dateFields clockFields longFraction fractionFields hoursField differenceFields zoneFields timeFields fieldsOf readChoice readYear
+    readDay readDate readClock natural readExtended readFraction readMinutes differenceAt readZone readTime readValue readOctets judgedAs judgedText encoded
+    compared judgedOctets decoded encodingOf countOf octetsFor spanTo without contentsOf element elementOf allDigits digitsOnly separated readElement hexDigit
+    toHex hexNumber fromHex worked cutAgain replyOf answerOf entryNamed intervalList allSmall allZero durationOf endsAt existsDuration shown spellable
+    weeksAlone durationFields extended fractionPart longNumber numberFields presences count anyPresent lastIn numbers ofLast partAt wellMade
+    Durations.readExtended durationInOctets endedBy readAfter readFields readNumbers readPresences readTail fractionLength getDuration getEnd getNumber
+    getPart getParts getPresent getTimes needless numberDigits putDuration putNumber putPart putParts putTimes readDuration renderDuration readDurationElement
 allRight [] = true
 allRight (line text zeros reply ∷ l) =
     eqList (replyOf (bytes text ++ replicate zeros 48)) (bytes reply ++ bytes "\n") && allRight l

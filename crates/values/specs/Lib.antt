@@ -1,0 +1,2 @@
+-- What the inner functions of values under types say.
+pub mod Parts
