@@ -4,7 +4,8 @@
 
 How the functions lie in memory alone makes some percent of such times. So each archive is linked several times, with its
 functions in shuffled places (lld does this; Debian's package has its name), and each of these builds is run several times. A
-build's time is the least of its runs, and what is printed is the mean over the builds, with the least and the most of them.
+build's time is the least of its runs, and what is printed is the mean over the builds, with the least and the most of them. A value
+that the old archive refuses has the new one's times alone; one that the new archive refuses and the old one takes is an error.
 """
 
 import re
@@ -55,10 +56,12 @@ def main():
                     for key, time in run(f"{folder}/{which}.{seed}").items():
                         of = least[which].setdefault(key, {})
                         of[seed] = min(time, of.get(seed, time))
-    for key in least[0]:
-        old, new = (list(times[key].values()) for times in least)
-        more = 100 * (statistics.mean(new) / statistics.mean(old) - 1)
-        print(f"{key[1]}, {key[2]}: old {shown(old)}, new {shown(new)}, {more:+.1f} %   {key[0]}")
+    if least[0].keys() - least[1].keys():
+        sys.exit(f"the new archive refuses {sorted(least[0].keys() - least[1].keys())}")
+    for key in least[1]:
+        old, new = (list(times.get(key, {}).values()) for times in least)
+        more = f", {100 * (statistics.mean(new) / statistics.mean(old) - 1):+.1f} %" if old else ""
+        print(f"{key[1]}, {key[2]}: old {shown(old) if old else 'refused'}, new {shown(new)}{more}   {key[0]}")
 
 
 if __name__ == "__main__":

@@ -64,5 +64,6 @@ int main(void)
     grows("a year of digits alone", "9", 0);
     grows("a type's text of repeated pairs", "Date=YMD ", 1);
     grows("a type's text of one long word", "Basic", 1);
+    grows("a type's text of repeated lists", "Basic=Date Date=Y Year=L9|", 1);
     return sum == 0;
 }

@@ -9,7 +9,7 @@ const char *anafzir_message(uint32_t number)
     case ANAFZIR_BAD_TYPE:
         return "The type cannot be read, or a limit has no place in it.";
     case ANAFZIR_MIXED_TYPE:
-        return "The type's two lists do not belong together.";
+        return "The type's lists do not belong together.";
     case ANAFZIR_BAD_FORM:
         return "The input does not look like a value of the type.";
     case ANAFZIR_NO_SUCH_VALUE:

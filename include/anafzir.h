@@ -23,7 +23,7 @@ extern "C" {
 #endif
 
 /* The version of this header. Until 1.0.0 a new second number may change what is here. */
-#define ANAFZIR_VERSION "0.2.0"
+#define ANAFZIR_VERSION "0.3.0"
 
 /* Room of so many octets is enough for every result, of every function. */
 #define ANAFZIR_ROOM 136
@@ -34,12 +34,12 @@ enum {
     /* There is a result. */
     ANAFZIR_DONE = 0,
     /* The type cannot be read: a word that is no setting, a setting that is missing or stands
-     * twice, a name beside a bar, more than two lists, two lists that are equal; or a limit
-     * that has no place in the type: years without a date, hour 24 without a time, counts. So
-     * a duration has no place for any limit. */
+     * twice, a name beside a bar, more than six lists, any two lists that are equal; or a limit
+     * that has no place in one of the lists: years without a date, hour 24 without a time,
+     * counts. So a duration has no place for any limit. */
     ANAFZIR_BAD_TYPE = 1,
-    /* The type's two lists can each be read and do not belong together: they differ in more
-     * than Year, or in Years that are not Basic with Proleptic or Negative with L5. */
+    /* The type's lists can each be read and do not belong together: two of them differ in more
+     * than Year, or one has Basic or Proleptic and one Negative or L5 to L9. */
     ANAFZIR_MIXED_TYPE = 2,
     /* The input does not look like a value of the type: a text, or contents in DER, with other
      * fields, separators or numbers of digits; octets that end too early; in PER a number that no
@@ -51,9 +51,10 @@ enum {
     /* It looks right, and there is no such date, time or difference: 30 February, 24:00:01,
      * 12:34:60Z. */
     ANAFZIR_NO_SUCH_VALUE = 4,
-    /* The value exists, and the type does not have it: another Year setting, a year outside the
-     * lowest and highest, hour 24 where it is excluded. Every duration exists, and both types of
-     * durations have it: with them there is no 4 and no 5. */
+    /* The value exists, and the type does not have it: a Year setting that none of its lists has,
+     * such as six digits where it has five, a year outside the lowest and highest, hour 24 where
+     * it is excluded. Every duration exists, and both types of durations have it: with them there
+     * is no 4 and no 5. */
     ANAFZIR_NOT_IN_TYPE = 5,
     /* Decoding only: the octets give a value, and they are not what the encoder writes for it:
      * octets are left over; in PER a number takes more bits than it needs, also after a 1 bit
@@ -95,8 +96,8 @@ struct anafzir_outcome {
     size_t length;
 };
 
-/* A type is a name, a list of settings, or two lists with `|` between them. docs/TYPES.md has
- * all of this with examples in PER and in DER, and what is not there.
+/* A type is a name, a list of settings, or up to six lists with `|` between them. docs/TYPES.md
+ * has all of this with examples in PER and in DER, and what is not there.
  *
  * A list is pairs Property=Setting with one space between, in any order, each property once.
  * It has Basic, and exactly the properties that its setting of Basic names here.
@@ -119,6 +120,10 @@ struct anafzir_outcome {
  *   Year=Proleptic     1066            0000 to 1581
  *   Year=Negative      -0044           -9999 to -0001
  *   Year=L5            +12006          a sign and five digits, the first not 0
+ *   Year=L6            -129000         the same with six digits
+ *   Year=L7            -2580000        with seven
+ *   Year=L8            -66000000       with eight
+ *   Year=L9            -251902000      with nine
  *
  *   Time=H             15              hours, 00 to 24; at 24 all that follows is 0
  *   Time=HM            15:27           and minutes, 00 to 59
@@ -140,8 +145,9 @@ struct anafzir_outcome {
  *   DATE-TIME          Basic=Date-Time Date=YMD Year=Basic Time=HMS Local-or-UTC=L
  *   DURATION           Basic=Interval Interval-type=D
  *
- * A name has the texts and the PER of its settings, and a tag of its own in DER. Two lists
- * differ in Year alone, as Basic and Proleptic or as Negative and L5. A name stands alone.
+ * A name has the texts and the PER of its settings, and a tag of its own in DER. A name stands
+ * alone. Lists differ in Year alone, as Basic and Proleptic, or as any of Negative and L5 to L9,
+ * in any order; the type then has the years of all of them.
  *
  * Of the limits above, years have a place where there is a date, and no hour 24 where there
  * is a time. A duration has a place for neither, and no type has one for counts.

@@ -1,7 +1,11 @@
 """Checks convert_lines.py against document 01's example and hand-written replies, and that its lines ask for all."""
 
-from checks import INTERVAL_D, agree
-from convert_lines import SAMPLE, all_lines, line, replies, reply, second_60
+import itertools
+import re
+
+from checks import INTERVAL_D, SIX_LISTS, Y_BASIC, Y_L6, Y_L9, agree, check_ends_in_lines, check_other_lengths
+from convert_lines import SAMPLE, all_lines, from_hex, line, long_years_in_octets, replies, reply, second_60
+from year_texts import DATES, LARGE_YEARS
 
 # all that is read, all that is written
 WHOLE = (
@@ -139,6 +143,42 @@ LINES = (
     (b"under;Basic=Time Time=HMS Local-or-UTC=LD;0E0E31383A35393A36302D30353A3030", b"6"),
     (b"per;Basic=Date-Time Date=Y Year=Basic Time=HMS Local-or-UTC=Z;1066T12:34:60Z", b"4"),
     (b"per;Basic=Date-Time Date=Y Year=Basic Time=HMS Local-or-UTC=Z;1066T23:59:60Z", b"5"),
+    # #103: "Geology people need `Year=L6` to `L9`."
+    (b"per;Basic=Date Date=Y Year=L6;+100000", b"0 030186A0"),
+    (b"per;Basic=Date Date=Y Year=L7;-9999999", b"0 04FF676981"),
+    (b"per;Basic=Date Date=Y Year=L8;+10000000", b"0 0400989680"),
+    (b"per;Basic=Date Date=Y Year=L9;-999999999", b"0 04C4653601"),
+    (b"unper;Basic=Date Date=Y Year=L9;043b9aC9FF", b"0 +999999999"),
+    (b"unper;Basic=Date Date=YMD Year=L9;043B9AC9FFBF00", b"0 +999999999-12-31"),
+    (b"der;Basic=Date Date=YD Year=L6;-123456-366", b"0 0E0B2D3132333435362D333636"),
+    (b"under;Basic=Date Date=YD Year=L6;0E0B2D3132333435362D333636", b"0 -123456-366"),
+    # "it meets 5 and no longer 3 in a type without that length"; 3 and 4 before it, 6 after it
+    (b"per;DATE;+123456-06-13", b"5"),
+    (b"der;DATE;+123456-02-30", b"4"),
+    (b"der;Basic=Date Date=Y Year=L5;-100000", b"5"),
+    (b"unper;Basic=Date Date=Y Year=L5;030186A0", b"5"),
+    (b"unper;Basic=Date Date=Y Year=L5;030186A000", b"5"),
+    (b"unper;Basic=Date Date=Y Year=L6;030186A000", b"6"),
+    (b"unper;Basic=Date Date=Y Year=L6;04000186A0", b"6"),
+    (b"unper;Basic=Date Date=Y Year=L9;043B9ACA00", b"5"),
+    (b"unper;Basic=Date Date=Y Year=L9;0500FFFFFFFF", b"3"),
+    (b"under;Basic=Date Date=Y Year=L9;0E092D3939393939393939", b"5"),
+    (b"per;Basic=Date Date=YMD Year=L6;+011985-04-12", b"3"),
+    (b"per;Basic=Date Date=Y Year=L9;+1000000000", b"3"),
+    (b"per;Basic=Date Date=YW Year=L9;-999999980-W53", b"0 04C4653614D0"),
+    (b"per;Basic=Date Date=YW Year=L9;-999999979-W53", b"4"),
+    # "A type may be up to six lists that differ only in Year, all of one row, no Year twice."
+    (b"per;" + SIX_LISTS + b";-0128", b"0 0180"),
+    (b"per;" + SIX_LISTS + b";+8388608", b"0 0400800000"),
+    (b"under;" + SIX_LISTS + b";0E0A2B313030303030303030", b"0 +100000000"),
+    (b"per;" + SIX_LISTS + b";2006", b"5"),
+    (b"per;" + SIX_LISTS + b"|" + Y_L6 + b";-0128", b"1"),
+    (b"der;" + SIX_LISTS + b"|" + Y_BASIC + b";-0128", b"1"),
+    (b"der;" + Y_L6 + b"|" + Y_BASIC + b"|" + Y_L6 + b";-0128", b"1"),
+    (b"der;" + Y_L6 + b"|" + Y_BASIC + b"|" + Y_L9 + b";-0128", b"2"),
+    (b"per;" + Y_L6 + b"|" + Y_L9 + b"|" + Y_BASIC + b";-0128", b"2"),
+    (b"unper;" + Y_L6 + b"|Basic=Date Date=YM Year=L9;0180", b"2"),
+    (b"unper;" + Y_L6 + b"|Basic=Date Date=Y Year=L10;0180", b"1"),
     # "fewer than two semicolons"
     (b"per", b"?"),
     (b"per;DATE", b"?"),
@@ -212,31 +252,62 @@ def check_second_60():
     agree(found, FIRST_WORDS_OF_SECOND_60, "replies on second 60")
 
 
-def check_durations(lines):
+def questions(lines):
+    """The work, the type and the input of each line that begins with a work, and the first word of the reply to it."""
+    for each in lines:
+        work, *rest = each.split(b";", 2)
+        if work in FIRST_WORDS and rest:
+            yield work, *(rest if len(rest) == 2 else (b"", b"")), reply(each).split(b" ")[0]
+
+
+def check_durations(replied):
     """That the lines on durations ask for each number that a work can give there."""
     found = {work: set() for work in FIRST_WORDS_OF_DURATIONS}
-    for each in lines:
-        work, _, rest = each.partition(b";")
-        if work in found and rest.startswith((b"DURATION;", INTERVAL_D + b";")):
-            found[work].add(reply(each).split(b" ")[0])
+    for work, type_text, _, word in replied:
+        if type_text in (b"DURATION", INTERVAL_D):
+            found[work].add(word)
     agree(found, FIRST_WORDS_OF_DURATIONS, "replies on durations")
+
+
+def settings_of(type_text):
+    """The Year settings that a type names."""
+    return tuple(re.findall(rb"\bYear=([A-Za-z0-9]+)", type_text))
+
+
+def check_years(replied):
+    """That the lines on types with larger years ask for each number that a work can give, that each form of a date is asked
+    for with each setting, and that there are up to eight lists."""
+    found, forms, counts = {work: set() for work in FIRST_WORDS}, set(), set()
+    for work, type_text, _, word in replied:
+        if re.search(rb"\bYear=L[6-9]", type_text):
+            years = settings_of(type_text)
+            found[work].add(word)
+            forms.update((date, years, word) for date in re.findall(rb"\bDate=([A-Z]+)", type_text))
+            counts.add(len(years))
+    agree({work: words - {b"?"} for work, words in found.items()},
+          {work: words - {b"?"} for work, words in FIRST_WORDS.items()}, "replies on larger years")
+    wanted = set(itertools.product(DATES, [(year,) for year in LARGE_YEARS], (b"0", b"3", b"4", b"5")))
+    wanted -= set(itertools.product(DATES[:1], [(year,) for year in LARGE_YEARS], (b"4",)))
+    agree(wanted - forms, set(), "forms of larger years")
+    agree(set(range(1, 9)) - counts, set(), "numbers of lists")
+    check_ends_in_lines([each[1:] for each in replied if each[0] in (b"per", b"der")])
+    read = (each.split(b";") + [reply(each)[:1]] for each in long_years_in_octets())
+    check_other_lengths((work == b"under", type_text, from_hex(given), word) for work, type_text, given, word in read)
 
 
 def check_lines():
     """That the lines ask for each number that a work can give, and have many lengths."""
     lines = all_lines()
-    found = {work: set() for work in FIRST_WORDS}
-    for each in lines:
-        work, semicolon, _ = each.partition(b";")
-        if work in found and semicolon:
-            found[work].add(reply(each).split(b" ")[0])
+    replied = set(questions(lines))
+    found = {work: {word for other, _, _, word in replied if other == work} for work in FIRST_WORDS}
     agree(found, FIRST_WORDS, "replies")
     agree(len(set(lines)) >= 20000 and len(lines) < 80000, True, "number of lines")
     agree(sum(map(len, lines)) < 6000000, True, "number of octets")
     agree({0, 1, 1023, 1024, 1025, 5000, 70000, 200000, 200001} <= set(map(len, lines)), True, "lengths")
     agree(lines[:3], WHOLE[0][0].splitlines(), "first lines")
     agree(reply(lines[-1])[:2], b"0 ", "last line")
-    check_durations(lines)
+    check_durations(replied)
+    check_years(replied)
 
 
 def main():

@@ -1,15 +1,18 @@
-"""Checks der.py against hand-written cases from document 01's sentences and requests #101 and #102, and against the
-vectors of an outside tool."""
+"""Checks der.py against hand-written cases from document 01's sentences and requests #101 to #103, and against the vectors
+of an outside tool."""
 
 import itertools
 
 import der
+from checks import ABOVE_NINE_DIGITS, BELOW_NINE_DIGITS, HIGHEST_YEAR, INSIDE_NINE_DIGITS, LOWEST_YEAR, NINE_DIGITS
 from checks import BOTH_LIMITS, EMPTY_WINDOW, NO_HOUR_24, ROOM, YEARS_2000_TO_2010, agree, check_refused, check_value
 from checks import INTERVAL_D, LONGEST_DURATION, SECOND_60, second_60_with_all_differences, zones_at_second_60
+from checks import check_years_in_vectors
 from checks import H_L, HF1_L, HM_LD, HM_Z, HMF1_LD, HMS_L, HMS_LD, HMS_Z, HMSF1_Z, HMSF3_L, YW_T_HMF1_LD
 from checks import YMD_T_HMS_L, YMD_T_HMS_LD, YMD_T_HMS_Z
-from checks import Y_BASIC, Y_L5, Y_NEGATIVE, Y_PROLEPTIC, YD_BASIC, YM_BASIC, YMD_BASIC, YMD_PROLEPTIC, YW_BASIC
-from checks import YWD_BASIC
+from checks import LARGE_DATES, SIGNED_YEARS, SIX_LISTS, YEARS_OF_TYPES, YMD_T_HMS_Z_L9
+from checks import Y_BASIC, Y_L5, Y_L6, Y_L8, Y_L9, Y_NEGATIVE, Y_PROLEPTIC, YD_BASIC, YD_L7, YM_BASIC, YM_L6, YMD_BASIC
+from checks import YMD_L9, YMD_PROLEPTIC, YW_BASIC, YW_L8, YWD_BASIC, YWD_L9
 from coding_lines import sample
 from elements import der_vectors
 from settings import NO_LIMITS
@@ -43,6 +46,21 @@ VALUES = (
     (NO_LIMITS, Y_PROLEPTIC, b"0000", "0E 04 30 30 30 30"),
     (NO_LIMITS, Y_NEGATIVE, b"-0128", "0E 05 2D 30 31 32 38"),
     (NO_LIMITS, Y_L5, b"+32768", "0E 06 2B 33 32 37 36 38"),
+    # #103: "A sign with six to nine digits, the first not 0, is from now on of the form"
+    (NO_LIMITS, Y_L6, b"+100000", "0E 07 2B 31 30 30 30 30 30"),
+    (NO_LIMITS, YM_L6, b"-999999-12", "0E 0A 2D 39 39 39 39 39 39 2D 31 32"),
+    (NO_LIMITS, YD_L7, b"+1000000-366", "0E 0C 2B 31 30 30 30 30 30 30 2D 33 36 36"),
+    (NO_LIMITS, YW_L8, b"-99999980-W53", "0E 0D 2D 39 39 39 39 39 39 38 30 2D 57 35 33"),
+    (NO_LIMITS, Y_L9, b"+999999999", "0E 0A 2B 39 39 39 39 39 39 39 39 39"),
+    (NO_LIMITS, SIX_LISTS, b"-999999999", "0E 0A 2D 39 39 39 39 39 39 39 39 39"),
+    (NO_LIMITS, SIX_LISTS, b"-0001", "0E 05 2D 30 30 30 31"),
+    (NO_LIMITS, YMD_L9, b"-123456789-06-13", "0E 10 2D 31 32 33 34 35 36 37 38 39 2D 30 36 2D 31 33"),
+    (NO_LIMITS, YWD_L9, b"+999999620-W53-7", "0E 10 2B 39 39 39 39 39 39 36 32 30 2D 57 35 33 2D 37"),
+    (NO_LIMITS, YMD_T_HMS_Z_L9, b"+100000000-12-31T23:59:60Z",
+     "0E 1A 2B 31 30 30 30 30 30 30 30 30 2D 31 32 2D 33 31 54 32 33 3A 35 39 3A 36 30 5A"),
+    (NINE_DIGITS, Y_L9, b"-999999999", "0E 0A 2D 39 39 39 39 39 39 39 39 39"),
+    (HIGHEST_YEAR, Y_L9, b"+999999999", "0E 0A 2B 39 39 39 39 39 39 39 39 39"),
+    (LOWEST_YEAR, SIX_LISTS, b"-999999999", "0E 0A 2D 39 39 39 39 39 39 39 39 39"),
     # "then nothing (L), `Z`, or a sign with two-digit hours and optionally `:` and minutes (LD)"
     (NO_LIMITS, H_L, b"15", "0E 02 31 35"),
     (NO_LIMITS, HM_Z, b"15:27Z", "0E 06 31 35 3A 32 37 5A"),
@@ -129,6 +147,18 @@ REFUSED_TEXTS = (
     (NO_LIMITS, Y_BASIC + b"|" + Y_L5, b"", 0, 2),
     (NO_LIMITS, b"DATE", b"", 0, 3),
     (NO_LIMITS, b"DATE", b"1581-12-31", 0, 5),
+    # #103: "it meets 5 and no longer 3 in a type without that length"; 1, 2, 3, 4 and 7 beside it
+    (NO_LIMITS, Y_L5, b"+100000", 0, 5),
+    (NO_LIMITS, b"DATE", b"-999999999-12-31", ROOM, 5),
+    (NO_LIMITS, b"DATE", b"+123456-02-30", 0, 4),
+    (NO_LIMITS, YMD_L9, b"+011985-04-12", 0, 3),
+    (NO_LIMITS, Y_L9, b"+1000000000", ROOM, 3),
+    (INSIDE_NINE_DIGITS, Y_L9, b"-999999999", 0, 5),
+    (NO_LIMITS, Y_L9, b"+999999999", 11, 7),
+    (NO_LIMITS, SIX_LISTS + b"|" + Y_L9, b"", 0, 1),
+    (NO_LIMITS, Y_L6 + b"|" + Y_BASIC + b"|" + Y_L6, b"", 0, 1),
+    (NO_HOUR_24, Y_L6 + b"|" + Y_BASIC, b"2006", 0, 1),
+    (NO_LIMITS, Y_L6 + b"|" + Y_L8 + b"|" + Y_BASIC, b"", 0, 2),
     # durations: what DER writes is no text
     (NO_HOUR_24, b"DURATION", b"P1Y6M", ROOM, 1),
     (YEARS_2000_TO_2010, INTERVAL_D, b"P1Y6M", 0, 1),
@@ -255,6 +285,36 @@ REFUSED_OCTETS = (
     (NO_LIMITS, Y_PROLEPTIC, b"\x0E\x041582", ROOM, 5),
     (NO_LIMITS, Y_NEGATIVE, b"\x0E\x06+10000", ROOM, 5),
     (NO_LIMITS, Y_L5, b"\x0E\x042006", ROOM, 5),
+    # #103: years of six to nine digits under types without that length, and at the ends of the limits
+    (NO_LIMITS, Y_L5, b"\x0E\x07+100000", ROOM, 5),
+    (NO_LIMITS, Y_L6, b"\x0E\x06+99999", ROOM, 5),
+    (NO_LIMITS, Y_L9, b"\x0E\x09-99999999", ROOM, 5),
+    (NO_LIMITS, Y_BASIC, b"\x0E\x0A+999999999", 0, 5),
+    (NO_LIMITS, YMD_BASIC, b"\x0E\x0D+123456-06-13", ROOM, 5),
+    (HIGHEST_YEAR, Y_L9, b"\x0E\x0A+999999998", ROOM, 5),
+    (LOWEST_YEAR, Y_L9, b"\x0E\x0A-999999998", ROOM, 5),
+    (INSIDE_NINE_DIGITS, Y_L9, b"\x0E\x0A+999999999", ROOM, 5),
+    (ABOVE_NINE_DIGITS, Y_L9, b"\x0E\x0A+999999999", ROOM, 5),
+    (BELOW_NINE_DIGITS, Y_L9, b"\x0E\x0A-999999999", ROOM, 5),
+    # the first digit is 0, ten digits, four after `+`; a length that cuts the year, and one that leaves some of it over
+    (NO_LIMITS, YMD_L9, b"\x0E\x0D+011985-04-12", ROOM, 3),
+    (NO_LIMITS, Y_L9, b"\x0E\x0B+1000000000", ROOM, 3),
+    (NO_LIMITS, Y_L9, b"\x0E\x0A+099999999", ROOM, 3),
+    (NO_LIMITS, SIX_LISTS, b"\x0E\x05+2006", ROOM, 3),
+    (NO_LIMITS, Y_L9, b"\x0E\x0B+999999999", ROOM, 3),
+    (NO_LIMITS, Y_L9, b"\x0E\x09+999999999", ROOM, 5),
+    (NO_LIMITS, Y_L8, b"\x0E\x09+999999999", ROOM, 6),
+    # under a name's tag a year has four digits
+    (NO_LIMITS, b"DATE", b"\x1F\x1F\x0B+1234560613", ROOM, 3),
+    (NO_LIMITS, b"DATE", b"\x1F\x1F\x0A1234560613", ROOM, 3),
+    # 4 before 5 and 6, 5 before 6, and 6; 1 and 2
+    (NO_LIMITS, YMD_BASIC, b"\x0E\x0D+123456-02-30", ROOM, 4),
+    (NO_LIMITS, YMD_L9, b"\x0E\x10-999999999-02-29\x00", 0, 4),
+    (NO_LIMITS, Y_L8, b"\x0E\x0A-999999999\x00", ROOM, 5),
+    (NO_LIMITS, Y_L9, b"\x0E\x0A-999999999\x00", ROOM, 6),
+    (NO_LIMITS, Y_L9, b"\x0E\x0A-999999999", 9, 7),
+    (NO_LIMITS, SIX_LISTS + b"|" + Y_BASIC, b"\x0E\x0A-999999999", ROOM, 1),
+    (NO_LIMITS, Y_L9 + b"|" + Y_BASIC, b"\x0E\x0A-999999999", ROOM, 2),
     # "year window, hour 24"; "A lowest year above the highest makes a type with no values."
     (YEARS_2000_TO_2010, b"DATE", b"\x1F\x1F\x0819991231", ROOM, 5),
     (YEARS_2000_TO_2010, b"DATE", b"\x1F\x1F\x0820110101", ROOM, 5),
@@ -438,23 +498,29 @@ REFUSED_OCTETS = (
 DURATIONS = (b"P1Y6M", b"PT0.5S", b"P5W", b"P10DT20M0S")
 
 # a year of each setting with the most octets
-LONGEST_YEARS = {b"Basic": b"2006", b"Proleptic": b"1066", b"Negative": b"-0044", b"L5": b"-12006"}
+LONGEST_YEARS = {b"Basic": b"2006", b"Proleptic": b"1066", b"Negative": b"-0044", b"L5": b"-12006", b"L6": b"-123456",
+                 b"L7": b"-1234567", b"L8": b"-12345678", b"L9": b"-123456789"}
 
-# `-12006-06-13T15:58:60.999999999+15:59`
-LONGEST_CONTENTS = 37
+# six lists of one row
+SIX_YEARS = (b"L7", b"L6", b"Negative", b"L9", b"L5", b"L8")
+
+# `-123456789-06-13T15:58:60.999999999+15:59`
+LONGEST_CONTENTS = 41
 
 
 def longest_texts():
-    """Every type of lists with a text of the most octets."""
+    """Every type of one list or two of the base, and with nine digits and six lists, with a text of the most octets; of the
+    date-times of six lists each seventh."""
     dates = [(date, years, max((LONGEST_YEARS[year] for year in years), key=len) + DATE_TAILS[date])
-             for date, years in itertools.product(DATES, YEAR_CHOICES)]
+             for date, years in itertools.product(DATES, (SIX_YEARS, *YEAR_CHOICES, (b"L9",)))]
     zone_ends = {b"L": b"", b"Z": b"Z", b"LD": b"+15:59"}
     times = [(time, zone, time_text(time, last_fields(time, zone_ends[zone]), b"9", zone_ends[zone]))
              for time, zone in itertools.product(TIMES, ZONES)]
     yield from ((date_type(date, *years), text) for date, years, text in dates)
     yield from ((time_type(time, zone), text) for time, zone, text in times)
-    for (date, years, date_text), (time, zone, clock) in itertools.product(dates, times):
-        yield date_time_type(date, years, time, zone), date_text + b"T" + clock
+    for k, ((date, years, date_text), (time, zone, clock)) in enumerate(itertools.product(dates, times)):
+        if years != SIX_YEARS or k % 7 == 0:
+            yield date_time_type(date, years, time, zone), date_text + b"T" + clock
 
 
 def check_lengths():
@@ -483,14 +549,28 @@ def check_second_60():
             check_refused(work, NO_LIMITS, type_text, given, room, number)
 
 
+def check_years():
+    """#103 in contents, which are the canonical text: years of each length under many types, and dates that exist or don't."""
+    cases = [(date_type(b"Y", *(each.encode() for each in words)), text, 0 if word in words else 5)
+             for (text, _, word), words in itertools.product(SIGNED_YEARS, YEARS_OF_TYPES)]
+    for type_text, text, number in (*cases, *LARGE_DATES):
+        octets = b"\x0E" + bytes([len(text)]) + text
+        if number == 0:
+            check_value(der, NO_LIMITS, type_text, text, octets, 0)
+            continue
+        check_refused(der.encode, NO_LIMITS, type_text, text, ROOM, number)
+        check_refused(der.decode, NO_LIMITS, type_text, octets, 0, number)
+
+
 def check_vectors():
     """The outside tool's vectors both ways, of each name and of the most octets."""
     vectors = list(der_vectors())
     lengths = {octets[1] for type_text, _, octets in vectors if type_text not in NAMES}
-    agree(len(vectors) >= 600 and LONGEST_CONTENTS in lengths, True, "vectors are there")
+    agree(len(vectors) >= 900 and LONGEST_CONTENTS in lengths, True, "vectors are there")
     agree({type_text for type_text, _, _ in vectors} >= {*NAMES, b"DURATION", INTERVAL_D}, True, "names are there")
     zones = zones_at_second_60(text for _, text, _ in vectors)
     agree(zones, {b"", b"Z", b"+", b"-"}, "vectors of second 60 are there")
+    check_years_in_vectors((type_text, text) for type_text, text, _ in vectors)
     for type_text, text, octets in vectors:
         check_value(der, NO_LIMITS, type_text, text, octets, 0)
 
@@ -540,6 +620,7 @@ def main():
     for limits, type_text, octets, room, number in REFUSED_OCTETS:
         check_refused(der.decode, limits, type_text, octets, room, number)
     check_second_60()
+    check_years()
     check_lengths()
     check_vectors()
     for type_text, text in itertools.islice(sample(), 0, None, 2):

@@ -12,14 +12,23 @@ YEARS_IN_FULL = (1, 4, 100, 400, 1581, 1582, 1600, 1900, 1999, *range(2000, 2031
 FAR_YEARS = (
     *range(-2147483648, -2147483648 + 1000),
     *range(-1000000400, -999999600),
+    *range(-987654400, -987654000),
     *range(-100000400, -99999600),
+    *range(-10000200, -9999800),
+    *range(-1000200, -999800),
     *range(-100400, -99600),
     *range(-10400, -9600),
     *range(99600, 100400),
+    *range(999800, 1000200),
+    *range(9999800, 10000200),
     *range(99999600, 100000400),
+    *range(123456400, 123456800),
     *range(999999600, 1000000400),
     *range(2147483647 - 1000, 2147483648),
 )
+
+# first and last year of a walk from day to day, with nine digits of either sign
+FAR_WALKS = ((-999999999, -999999960), (-100000020, -99999981), (100000000, 100000039), (999999960, 999999999))
 
 NO_MONTHS = (-2147483648, -12, -1, 0, 13, 14, 255, 256, 257, 268, 2147483648, 4294967295)
 
@@ -177,6 +186,16 @@ def check_day_walk():
     agree(day_of_week, date(401, 1, 1).isoweekday(), "weekday of 1 January 10401, 25 periods after 401")
 
 
+def check_far_walks():
+    """Day by day at years of nine digits, from the weekday and the week of the year of datetime that is whole periods away."""
+    for first, last in FAR_WALKS:
+        start = date(year_of_datetime(first + 400), 1, 1)
+        week_year, week, _ = (start - timedelta(1)).isocalendar()
+        day_of_week, _, _ = walk_days(first, last, start.isoweekday(), week_year + first - start.year, week)
+        after = date(year_of_datetime(last + 1), 1, 1)
+        agree(day_of_week, after.isoweekday(), "weekday of 1 January", last + 1)
+
+
 def main():
     """Ends with a message at the first disagreement; prints nothing when there is none."""
     check_years_of_datetime()
@@ -185,6 +204,7 @@ def main():
     check_period()
     check_year_walk()
     check_day_walk()
+    check_far_walks()
 
 
 if __name__ == "__main__":

@@ -1,16 +1,20 @@
-"""Checks per.py against "Checked values" and hand-written cases from document 01's sentences and requests #101 and #102,
-and the reading of durations against the writing of all texts."""
+"""Checks per.py against "Checked values" and hand-written cases from document 01's sentences and requests #101 to #103, and
+the reading of durations against the writing of all texts."""
 
 import itertools
 
 import per
-from bits import fill
+from bits import fill, octet_bits
+from checks import ABOVE_NINE_DIGITS, BELOW_NINE_DIGITS, HIGHEST_YEAR, INSIDE_NINE_DIGITS, LOWEST_YEAR, NINE_DIGITS
 from checks import BOTH_LIMITS, INTERVAL_D, LONGEST_DURATION, NO_HOUR_24, ROOM, YEARS_2000_TO_2010, agree
 from checks import SECOND_60, check_refused, check_value, second_60_with_all_differences
 from checks import H_L, H_LD, H_Z, HF1_L, HF2_L, HF2_LD, HF4_L, HMS_LD, HMS_Z, HMSF1_Z, HMSF2_LD, HMSF3_L, HMSF4_L
 from checks import YMD_T_HMS_LD, YMD_T_HMS_Z
-from checks import Y_BASIC, Y_L5, Y_NEGATIVE, Y_PROLEPTIC, YD_BASIC, YMD_PROLEPTIC, YW_BASIC, YWD_BASIC
+from checks import LARGE_DATES, SIGNED_YEARS, SIX_LISTS, YEARS_OF_TYPES, YMD_T_HMS_Z_L9, YMD_T_HMSF9_LD_L9
+from checks import Y_BASIC, Y_L5, Y_L6, Y_L7, Y_L8, Y_L9, Y_NEGATIVE, Y_PROLEPTIC, YD_BASIC, YD_L7, YM_L6, YMD_L5, YMD_L9
+from checks import YMD_PROLEPTIC, YW_BASIC, YW_L8, YWD_BASIC, YWD_L9
 from settings import NO_LIMITS
+from value_lines import date_type
 
 # type, text, octets, bit count; both ways, and with a room of one octet less than the result
 VALUES = (
@@ -38,6 +42,20 @@ VALUES = (
     (Y_NEGATIVE, b"-0129", "02 FF 7F", 24),
     (Y_L5, b"+32767", "02 7F FF", 24),
     (Y_L5, b"+32768", "03 00 80 00", 32),
+    # #103: "Free integers still need at most four octets.", before the fields of each form: month 0000, ordinal day 101101101,
+    # week 110100, weekday 110, month and day 1011 11110
+    (Y_L6, b"+100000", "03 01 86 A0", 32),
+    (YM_L6, b"+100000-01", "03 01 86 A0 00", 36),
+    (YD_L7, b"-1000000-366", "03 F0 BD C0 B6 80", 41),
+    (YW_L8, b"+10000020-W53", "04 00 98 96 94 D0", 46),
+    (YWD_L9, b"-999999980-W53-7", "04 C4 65 36 14 D3 00", 49),
+    (YMD_L9, b"+999999999-12-31", "04 3B 9A C9 FF BF 00", 49),
+    (YMD_L9, b"-999999999-12-31", "04 C4 65 36 01 BF 00", 49),
+    # 10111 111011 111100
+    (YMD_T_HMS_Z_L9, b"-100000000-12-31T23:59:60Z", "04 FA 0A 1F 00 BF 5F BF 00", 66),
+    # month and day 0101 01100, time 01111 111010 111100, fraction 1 and 04 3B 9A C9 FF, difference 1 11110 111010
+    (YMD_T_HMSF9_LD_L9, b"-999999999-06-13T15:58:60.999999999+15:59",
+     "04 C4 65 36 01 56 3F AF 20 87 73 59 3F FF 74", 119),
     # "HMSF4 .0999 takes the short fraction, .1000 the long one."
     (HMSF4_L, b"15:27:46.0999", "7B 77 3E 70", 28),
     (HMSF4_L, b"15:27:46.1000", "7B 77 40 80 FA 00", 42),
@@ -93,6 +111,20 @@ REFUSED_TEXTS = (
     (NO_LIMITS, b"DATE", b"", 0, 3),
     (NO_LIMITS, b"DATE", b"2006-02-29", 0, 4),
     (NO_LIMITS, b"DATE", b"1581-12-31", 0, 5),
+    # #103: "it meets 5 and no longer 3 in a type without that length"; 3, 4 and 7 beside it
+    (NO_LIMITS, Y_L5, b"+100000", ROOM, 5),
+    (NO_LIMITS, Y_L8, b"-999999999", 0, 5),
+    (NO_LIMITS, b"DATE", b"+123456-06-13", 0, 5),
+    (NO_LIMITS, b"DATE", b"+123456-02-30", 0, 4),
+    (NO_LIMITS, Y_L9, b"+1000000000", 0, 3),
+    (NO_LIMITS, YMD_L9, b"+011985-04-12", ROOM, 3),
+    (NO_LIMITS, Y_L9, b"+999999999", 4, 7),
+    (INSIDE_NINE_DIGITS, Y_L9, b"+999999999", 0, 5),
+    (NO_LIMITS, SIX_LISTS + b"|" + Y_L9, b"", 0, 1),
+    (NO_LIMITS, SIX_LISTS + b"|" + Y_BASIC, b"2006", 0, 1),
+    (NO_LIMITS, Y_L6 + b"|" + Y_BASIC + b"|" + Y_L6, b"", 0, 1),
+    (NO_HOUR_24, Y_L6 + b"|" + Y_BASIC, b"2006", 0, 1),
+    (NO_LIMITS, Y_L6 + b"|" + Y_L7 + b"|" + Y_BASIC, b"", 0, 2),
     # durations: 1, 2, 3 and 7
     (NO_HOUR_24, b"DURATION", b"P1Y6M", ROOM, 1),
     (YEARS_2000_TO_2010, INTERVAL_D, b"P1Y6M", ROOM, 1),
@@ -139,6 +171,43 @@ REFUSED_OCTETS = (
     (NO_LIMITS, Y_BASIC, "C1 1F FF FF FF C0", ROOM, 5),
     (NO_LIMITS, Y_L5, "04 00 01 86 A0", ROOM, 5),
     (NO_LIMITS, Y_L5, "01 80", ROOM, 5),
+    # #103: a year of ten digits is of no setting, of either sign: 1000000000, -1000000000, and the ends of four octets
+    (NO_LIMITS, Y_L9, "04 3B 9A CA 00", ROOM, 5),
+    (NO_LIMITS, Y_L9, "04 C4 65 36 00", ROOM, 5),
+    (NO_LIMITS, SIX_LISTS, "04 7F FF FF FF", ROOM, 5),
+    (NO_LIMITS, SIX_LISTS, "04 80 00 00 00", 0, 5),
+    (NO_LIMITS, SIX_LISTS, "01 00", ROOM, 5),
+    (NO_LIMITS, SIX_LISTS, "02 07 D6", ROOM, 5),
+    # after choice 3: 100000 and -999999999
+    (NO_LIMITS, Y_BASIC, "C0 C0 61 A8 00", ROOM, 5),
+    (NO_LIMITS, Y_PROLEPTIC, "C1 31 19 4D 80 40", ROOM, 5),
+    # "a free integer's length not 1 to 4", "octets end inside a field"
+    (NO_LIMITS, Y_L9, "05 00 3B 9A C9 FF", ROOM, 3),
+    (NO_LIMITS, Y_L9, "08 00 00 00 00 3B 9A C9 FF", ROOM, 3),
+    (NO_LIMITS, SIX_LISTS, "00", ROOM, 3),
+    (NO_LIMITS, Y_L9, "04 3B 9A C9", ROOM, 3),
+    (NO_LIMITS, YMD_L9, "04 3B 9A C9 FF BE", ROOM, 3),
+    (NO_LIMITS, YMD_L9, "04 3B 9A C9 FF C0 00", ROOM, 3),
+    # 4 before 5 and 6: 999999999-02-29, and -1000000000-02-30, 100000-02-30 in four octets
+    (NO_LIMITS, YMD_L9, "04 3B 9A C9 FF 1E 00", ROOM, 4),
+    (NO_LIMITS, YMD_L9, "04 C4 65 36 00 1E 80", ROOM, 4),
+    (NO_LIMITS, YMD_L5, "04 00 01 86 A0 1E 80", ROOM, 4),
+    # 5 before 6, and 6: "integer not shortest", filling, an octet left over
+    (NO_LIMITS, Y_L7, "04 00 01 86 A0", ROOM, 5),
+    (NO_LIMITS, Y_L6, "04 00 01 86 A0", ROOM, 6),
+    (NO_LIMITS, Y_L7, "04 FF 80 00 00", ROOM, 6),
+    (NO_LIMITS, YMD_L9, "04 3B 9A C9 FF BF 01", ROOM, 6),
+    (NO_LIMITS, Y_L9, "04 3B 9A C9 FF 00", 0, 6),
+    (NO_LIMITS, Y_L9, "04 3B 9A C9 FF", 9, 7),
+    # limits at the ends of nine digits, inside them and beyond
+    (HIGHEST_YEAR, Y_L9, "04 3B 9A C9 FE", ROOM, 5),
+    (LOWEST_YEAR, Y_L9, "04 C4 65 36 02", ROOM, 5),
+    (INSIDE_NINE_DIGITS, Y_L9, "04 3B 9A C9 FF", ROOM, 5),
+    (ABOVE_NINE_DIGITS, Y_L9, "04 3B 9A CA 00", ROOM, 5),
+    (BELOW_NINE_DIGITS, Y_L9, "04 C4 65 36 00", ROOM, 5),
+    (NO_HOUR_24, SIX_LISTS, "04 3B 9A C9 FF", ROOM, 1),
+    (NO_LIMITS, SIX_LISTS + b"|" + Y_BASIC, "04 3B 9A C9 FF", ROOM, 1),
+    (NO_LIMITS, Y_L9 + b"|" + Y_BASIC, "04 3B 9A C9 FF", ROOM, 2),
     # "year window, hour 24"
     (YEARS_2000_TO_2010, Y_BASIC, "18", ROOM, 5),
     (NO_HOUR_24, H_L, "C0", ROOM, 5),
@@ -409,6 +478,44 @@ def check_second_60():
             check_refused(per.decode, limits, type_text, fill(bits.replace(" ", "")), room, number)
 
 
+def longer(octets):
+    """A free integer with more octets than it needs, up to the most and past them."""
+    sign = b"\xff" if octets[1] & 0x80 else b"\x00"
+    for length in range(len(octets), 9):
+        yield bytes([length]) + sign * (length + 1 - len(octets)) + octets[1:]
+
+
+def check_year_of(words, text, octets, word):
+    """A year as a free integer under a type of these settings: the same both ways, or 5; with more octets 6, or 5, or 3."""
+    type_text = date_type(b"Y", *(each.encode() for each in words))
+    if word in words:
+        check_value(per, NO_LIMITS, type_text, text, octets, 8 * len(octets))
+        check_value(per, NINE_DIGITS, type_text, text, octets, 8 * len(octets))
+    else:
+        check_refused(per.encode, NO_LIMITS, type_text, text, ROOM, 5)
+        check_refused(per.decode, NO_LIMITS, type_text, octets, ROOM, 5)
+    for more in longer(octets):
+        check_refused(per.decode, NO_LIMITS, type_text, more, ROOM, 3 if more[0] > 4 else 6 if word in words else 5)
+
+
+def check_years():
+    """#103 in bits: years of each length under the types of one row and after choice 3, and dates that exist or don't."""
+    for (text, digits, word), words in itertools.product(SIGNED_YEARS, YEARS_OF_TYPES):
+        octets = bytes.fromhex(digits)
+        if "Basic" not in words and "Proleptic" not in words:
+            check_year_of(words, text, octets, word)
+            continue
+        type_text = date_type(b"Y", *(each.encode() for each in words))
+        check_refused(per.encode, NO_LIMITS, type_text, text, ROOM, 5)
+        check_refused(per.decode, NO_LIMITS, type_text, fill("11" + octet_bits(octets)), ROOM, 5)
+    for type_text, text, number in LARGE_DATES:
+        if number == 0:
+            octets = per.encode(type_text, NO_LIMITS, text, ROOM)[1]
+            agree(per.decode(type_text, NO_LIMITS, octets, ROOM)[:2], (0, text), type_text, octets)
+        else:
+            check_refused(per.encode, NO_LIMITS, type_text, text, ROOM, number)
+
+
 def main():
     """Ends with a message at the first disagreement; prints nothing when there is none."""
     for type_text, text, octets, bits in VALUES:
@@ -418,6 +525,7 @@ def main():
     for limits, type_text, octets, room, number in REFUSED_OCTETS:
         check_refused(per.decode, limits, type_text, bytes.fromhex(octets), room, number)
     check_second_60()
+    check_years()
     check_durations()
 
 

@@ -1,18 +1,23 @@
 """Checks settings.py, texts.py and durations.py against hand-written cases from document 01's sentences, "Checked
-values" and requests #101 and #102, durations also against 34 bis.3.6 and 11.9 d as patterns, and second 60 against
-Python's own time zones in every minute."""
+values" and requests #101 to #103, durations also against 34 bis.3.6 and 11.9 d as patterns, second 60 against Python's
+own time zones in every minute, and years of up to nine digits against a pattern and Python's own calendar."""
 
 import itertools
 import re
 
+from check_gregorian import facts_by_datetime, year_of_datetime
+from checks import ABOVE_NINE_DIGITS, BELOW_NINE_DIGITS, HIGHEST_YEAR, INSIDE_NINE_DIGITS, LOWEST_YEAR, NINE_DIGITS
 from checks import BOTH_LIMITS, EMPTY_WINDOW, INTERVAL_D, LONGEST_DURATION, NO_HOUR_24, YEARS_2000_TO_2010, agree
 from checks import H_L, HF1_L, HM_LD, HM_Z, HMS_L, HMS_LD, HMS_Z, HMSF1_Z, HMSF3_L, HMSF4_L, YW_T_HM_LD
 from checks import SECOND_60, YMD_T_HMS_L, YMD_T_HMS_Z, all_differences, at_23_59_utc, second_60_with_all_differences
-from checks import Y_BASIC, Y_L5, Y_NEGATIVE, Y_PROLEPTIC, YD_BASIC, YMD_PROLEPTIC, YW_BASIC, YWD_BASIC
+from checks import LARGE_DATES, SIGNED_YEARS, SIX_LISTS, YEARS_OF_TYPES, YMD_T_HMS_Z_L9
+from checks import Y_BASIC, Y_L5, Y_L6, Y_L7, Y_L8, Y_L9, Y_NEGATIVE, Y_PROLEPTIC, YD_BASIC, YM_BASIC, YM_L6, YMD_BASIC
+from checks import YMD_L5, YMD_L6, YMD_L9, YMD_PROLEPTIC, YW_BASIC, YW_L9, YWD_BASIC
 from durations import canonical, read_duration
 from octets import Octets
 from settings import NO_LIMITS, fraction_digits, is_refused, read_type, same_rows
 from texts import judge, read_text, second_60_can_be
+from value_lines import DATE_TAILS, date_type
 
 # limits, type, text, number, canonical text
 TEXTS = (
@@ -71,6 +76,66 @@ TEXTS = (
     # "a year of another setting than the type's is refusal 5"
     (NO_LIMITS, Y_BASIC, b"-0001", 5, None),
     (NO_LIMITS, Y_NEGATIVE, b"+10000", 5, None),
+    # #103: "A sign with six to nine digits, the first not 0, is from now on of the form, so it meets 5 and no longer 3 in a
+    # type without that length."
+    (NO_LIMITS, Y_L6, b"+123456", 0, b"+123456"),
+    (NO_LIMITS, Y_L5, b"+123456", 5, None),
+    (NO_LIMITS, Y_BASIC, b"-123456789", 5, None),
+    (NO_LIMITS, b"DATE", b"+123456-02-28", 5, None),
+    (NO_LIMITS, b"DATE-TIME", b"+999999999-12-31T23:59:60", 5, None),
+    (NO_LIMITS, YMD_T_HMS_Z_L9, b"-999999999-12-31T23:59:60Z", 0, b"-999999999-12-31T23:59:60Z"),
+    (NO_LIMITS, YMD_T_HMS_Z_L9, b"-999999999-12-31T12:34:60Z", 4, None),
+    (NO_LIMITS, YMD_T_HMS_Z_L9, b"-99999999-12-31T23:59:60Z", 5, None),
+    # the first digit is 0, four digits after `+`, all of them 0, and ten digits
+    (NO_LIMITS, YMD_L6, b"+011985-04-12", 3, None),
+    (NO_LIMITS, YMD_L5, b"+011985-04-12", 3, None),
+    (NO_LIMITS, YMD_L5, b"+11985-04-12", 0, b"+11985-04-12"),
+    (NO_LIMITS, YMD_BASIC, b"+001985-04-12", 3, None),
+    (NO_LIMITS, Y_L9, b"+012345678", 3, None),
+    (NO_LIMITS, Y_L9, b"-000000001", 3, None),
+    (NO_LIMITS, Y_L5, b"-00001", 3, None),
+    (NO_LIMITS, Y_L5, b"+00000", 3, None),
+    (NO_LIMITS, SIX_LISTS, b"+2006", 3, None),
+    (NO_LIMITS, SIX_LISTS, b"-0000", 3, None),
+    (NO_LIMITS, Y_L9, b"+1000000000", 3, None),
+    (NO_LIMITS, Y_L9, b"-1000000000", 3, None),
+    (NO_LIMITS, Y_L9, b"+0999999999", 3, None),
+    (NO_LIMITS, SIX_LISTS, b"+12345678901234567890", 3, None),
+    (NO_LIMITS, Y_L6, b"123456", 3, None),
+    (NO_LIMITS, Y_L6, b"+123 456", 3, None),
+    (NO_LIMITS, Y_L6, b"+123456-", 3, None),
+    (NO_LIMITS, YM_L6, b"+123456-7", 3, None),
+    (NO_LIMITS, YM_L6, b"+1234567", 3, None),
+    (NO_LIMITS, YM_L6, b"-123456-12", 0, b"-123456-12"),
+    # "When several hold, the lowest number is given.": 3, then 4, then 5
+    (NO_LIMITS, b"DATE", b"+123456-02-30", 4, None),
+    (NO_LIMITS, YMD_L5, b"+123456-02-30", 4, None),
+    (NO_LIMITS, YMD_L9, b"-999999-13-01", 4, None),
+    (NO_LIMITS, YMD_L9, b"+0123456-02-30", 3, None),
+    (NO_LIMITS, YMD_L9, b"+1234567890-02-30", 3, None),
+    (NO_LIMITS, YW_L9, b"-99999979-W53", 4, None),
+    (NO_LIMITS, YW_L9, b"-99999980-W53", 5, None),
+    # limits at the ends of nine digits, inside them and beyond
+    (NINE_DIGITS, Y_L9, b"+999999999", 0, b"+999999999"),
+    (NINE_DIGITS, Y_L9, b"-999999999", 0, b"-999999999"),
+    (HIGHEST_YEAR, Y_L9, b"+999999999", 0, b"+999999999"),
+    (HIGHEST_YEAR, Y_L9, b"+999999998", 5, None),
+    (HIGHEST_YEAR, Y_L9, b"-999999999", 5, None),
+    (HIGHEST_YEAR, Y_L8, b"+999999999", 5, None),
+    (LOWEST_YEAR, Y_L9, b"-999999999", 0, b"-999999999"),
+    (LOWEST_YEAR, SIX_LISTS, b"-999999998", 5, None),
+    (INSIDE_NINE_DIGITS, SIX_LISTS, b"+999999999", 5, None),
+    (INSIDE_NINE_DIGITS, SIX_LISTS, b"-999999999", 5, None),
+    (INSIDE_NINE_DIGITS, SIX_LISTS, b"-999999998", 0, b"-999999998"),
+    (ABOVE_NINE_DIGITS, Y_L9, b"+999999999", 5, None),
+    (ABOVE_NINE_DIGITS, Y_L9, b"+1000000000", 3, None),
+    (BELOW_NINE_DIGITS, Y_L9, b"-999999999", 5, None),
+    (BELOW_NINE_DIGITS, YMD_L9, b"-999999999-02-29", 4, None),
+    (NINE_DIGITS, b"DATE", b"+999999999-12-31", 5, None),
+    (NINE_DIGITS, b"DATE", b"2006-06-13", 0, b"2006-06-13"),
+    (YEARS_2000_TO_2010, SIX_LISTS, b"+123456", 5, None),
+    (NINE_DIGITS, HMS_L, b"15:27:46", 1, None),
+    (NO_HOUR_24, Y_L9, b"+999999999", 1, None),
     # "Gregorian rule for all years, negative and 0000 too"
     (NO_LIMITS, YMD_PROLEPTIC, b"0000-02-29", 0, b"0000-02-29"),
     (NO_LIMITS, YMD_PROLEPTIC, b"-0001-02-29", 4, None),
@@ -250,6 +315,77 @@ TYPES = (
     # "HFn, HMFn, HMSFn, with n from 1 to 9"
     (b"Basic=Time Time=HMF9 Local-or-UTC=Z", 0),
     (b"Basic=Time Time=HMF10 Local-or-UTC=Z", 1),
+    # #103: "Geology people need `Year=L6` to `L9`."
+    (Y_L6, 0),
+    (Y_L7, 0),
+    (Y_L8, 0),
+    (Y_L9, 0),
+    (b"Year=L6 Date=YWD Basic=Date", 0),
+    (b"Basic=Date Date=Y Year=L4", 1),
+    (b"Basic=Date Date=Y Year=L10", 1),
+    (b"Basic=Date Date=Y Year=L05", 1),
+    (b"Basic=Date Date=Y Year=L0", 1),
+    (b"Basic=Date Date=Y Year=L", 1),
+    (b"Basic=Date Date=Y Year=l6", 1),
+    (b"Basic=Date Date=Y Year=L6 ", 1),
+    (b"Basic=Date Date=Y Year=L 6", 1),
+    (b"Basic=Date Date=Y Year=L6L7", 1),
+    (b"Basic=Date Date=Y Year=L+6", 1),
+    (b"Basic=Date Date=Y Year=6", 1),
+    (b"Basic=Date Date=C Year=L6", 1),
+    # "A type may be up to six lists that differ only in Year, all of one row, no Year twice."
+    (Y_L6 + b"|" + Y_NEGATIVE, 0),
+    (Y_L9 + b"|" + Y_L5, 0),
+    (Y_L7 + b"|" + Y_L9 + b"|" + Y_L8, 0),
+    (b"Year=L7 Basic=Date Date=Y|" + Y_NEGATIVE + b"|Date=Y Year=L6 Basic=Date", 0),
+    (SIX_LISTS, 0),
+    (b"|".join((Y_L9, Y_L8, Y_L7, Y_L6, Y_L5, Y_NEGATIVE)), 0),
+    (b"|".join((Y_L6, Y_NEGATIVE, Y_L9, Y_L5, Y_L8)), 0),
+    # "1 for more than six lists": the seventh repeats one, is unreadable, a name, of another family, of another row
+    (SIX_LISTS + b"|" + Y_L9, 1),
+    (SIX_LISTS + b"|", 1),
+    (SIX_LISTS + b"|Basic=Date Date=Y Year=L10", 1),
+    (SIX_LISTS + b"|DATE", 1),
+    (SIX_LISTS + b"|" + Y_BASIC, 1),
+    (SIX_LISTS + b"|" + YM_L6, 1),
+    (SIX_LISTS + b"|" + HMS_L, 1),
+    (Y_BASIC + b"|" + SIX_LISTS, 1),
+    (b"|".join([Y_L6] * 7), 1),
+    (b"|".join((Y_BASIC, YM_BASIC, YMD_BASIC, YD_BASIC, YW_BASIC, YWD_BASIC, HMS_L)), 1),
+    # "or a Year twice in otherwise equal lists"
+    (Y_L6 + b"|" + Y_L6, 1),
+    (Y_L6 + b"|" + Y_L7 + b"|" + Y_L6, 1),
+    (Y_L6 + b"|Year=L6 Date=Y Basic=Date", 1),
+    (b"|".join((Y_NEGATIVE, Y_L5, Y_L6, Y_L7, Y_L8, Y_L5)), 1),
+    (b"|".join((Y_NEGATIVE, Y_L5, Y_L6, Y_L7, Y_L8, Y_L8)), 1),
+    # each pair is compared, also beside a list of another row or family
+    (Y_BASIC + b"|" + YW_BASIC + b"|" + YW_BASIC, 1),
+    (YW_BASIC + b"|" + Y_BASIC + b"|" + YW_BASIC, 1),
+    (Y_L6 + b"|" + HMS_L + b"|" + HMS_L, 1),
+    (HMS_L + b"|" + Y_L6 + b"|" + HMS_L, 1),
+    (Y_BASIC + b"|" + Y_L6 + b"|" + Y_L6, 1),
+    (Y_L6 + b"|" + Y_BASIC + b"|" + Y_L6, 1),
+    (INTERVAL_D + b"|" + Y_L6 + b"|" + INTERVAL_D, 1),
+    (b"|".join((Y_L6, Y_BASIC, YW_BASIC, HMS_L, HMS_Z, Y_BASIC)), 1),
+    # an unreadable list beside any others
+    (Y_BASIC + b"|" + Y_L6 + b"|Basic=Date Date=Y Year=L4", 1),
+    (b"|" + Y_L6 + b"|" + Y_L7, 1),
+    (Y_L6 + b"||" + Y_L7, 1),
+    (Y_L6 + b"|" + Y_L7 + b"| " + Y_L8, 1),
+    (b"DATE|" + Y_L6 + b"|" + HMS_L, 1),
+    # "2 for any other difference": two families, another Date, another row
+    (Y_BASIC + b"|" + Y_L6, 2),
+    (Y_L9 + b"|" + Y_PROLEPTIC, 2),
+    (Y_BASIC + b"|" + Y_PROLEPTIC + b"|" + Y_L9, 2),
+    (b"|".join((Y_NEGATIVE, Y_L5, Y_L6, Y_L7, Y_L8, Y_BASIC)), 2),
+    (Y_L6 + b"|" + YM_L6, 2),
+    (b"|".join((Y_NEGATIVE, Y_L5, YM_L6, Y_L7, Y_L8, Y_L9)), 2),
+    (YMD_L6 + b"|" + YMD_L9 + b"|" + YMD_T_HMS_Z_L9, 2),
+    (Y_L6 + b"|" + HMS_L, 2),
+    (HMS_L + b"|" + HMS_Z + b"|" + HMS_LD, 2),
+    (HMSF3_L + b"|" + HMSF4_L + b"|" + HMS_L, 2),
+    (Y_L6 + b"|" + INTERVAL_D + b"|" + HMS_L, 2),
+    (b"|".join((Y_BASIC, YM_BASIC, YMD_BASIC, YD_BASIC, YW_BASIC, YWD_BASIC)), 2),
     # "Two lists may differ only in Year, and then only as Basic with Proleptic or Negative with L5"
     (Y_PROLEPTIC + b"|" + Y_BASIC, 0),
     (Y_NEGATIVE + b"|" + Y_L5, 0),
@@ -257,9 +393,9 @@ TYPES = (
     # "two equal lists, are refusal 1; any other difference is 2"
     (Y_BASIC + b"|Year=Basic Date=Y Basic=Date", 1),
     (Y_BASIC + b"|" + YW_BASIC, 2),
-    # "A name stands alone; beside a bar it is refusal 1. So are three or more lists, and a space next to the bar."
+    # "A name stands alone; beside a bar it is refusal 1.", and "a space next to the bar"; three lists are up to six
     (b"DATE|" + YMD_PROLEPTIC, 1),
-    (Y_BASIC + b"|" + Y_PROLEPTIC + b"|" + Y_L5, 1),
+    (Y_BASIC + b"|" + Y_PROLEPTIC + b"|" + Y_L5, 2),
     (Y_BASIC + b" |" + Y_PROLEPTIC, 1),
     # "Centuries and intervals are no base types, and all their settings are refusal 1."
     (b"Basic=Date Date=C Year=Basic", 1),
@@ -291,6 +427,25 @@ TYPES = (
     (b"DURATION|DATE", 1),
 )
 
+# limits, type, number: "a restriction where it has no place", in any of the lists, is 1 and comes before 2
+LIMITED_TYPES = (
+    (NINE_DIGITS, SIX_LISTS, 0),
+    (NO_HOUR_24, SIX_LISTS, 1),
+    (BOTH_LIMITS, YMD_T_HMS_Z_L9, 0),
+    (NO_LIMITS, Y_BASIC + b"|" + Y_L6 + b"|" + HMS_L, 2),
+    (NINE_DIGITS, Y_BASIC + b"|" + Y_L6, 2),
+    (NO_HOUR_24, Y_BASIC + b"|" + Y_L6, 1),
+    (NINE_DIGITS, Y_BASIC + b"|" + Y_L6 + b"|" + HMS_L, 1),
+    (NINE_DIGITS, HMS_L + b"|" + Y_L6 + b"|" + Y_L7, 1),
+    (NINE_DIGITS, Y_L7 + b"|" + HMS_L + b"|" + Y_L6, 1),
+    (NO_HOUR_24, HMS_L + b"|" + HMS_Z + b"|" + YMD_T_HMS_Z_L9, 2),
+    (NO_HOUR_24, HMS_L + b"|" + HMS_Z + b"|" + YMD_L9, 1),
+    (BOTH_LIMITS, YMD_T_HMS_Z_L9 + b"|" + YMD_L9, 1),
+    (BOTH_LIMITS, YMD_T_HMS_Z_L9 + b"|" + YMD_T_HMS_Z, 2),
+    (NINE_DIGITS, Y_L6 + b"|" + INTERVAL_D + b"|" + Y_L7, 1),
+    (NINE_DIGITS, SIX_LISTS + b"|" + Y_L9, 1),
+)
+
 # type, text, whether it has a comma, a difference's minutes that are 0, and zero components
 SPELLINGS = (
     # "DER contents with a comma or `:00` count as of the form, so they meet 6 and not 3."
@@ -312,6 +467,15 @@ ROWS = (
     (b"DATE", YMD_PROLEPTIC, True, 0, 0),
     (Y_NEGATIVE, Y_L5, True, 0, 0),
     (Y_BASIC + b"|" + Y_PROLEPTIC, Y_L5, False, 0, 0),
+    (Y_L5, Y_L9, True, 0, 0),
+    (Y_NEGATIVE, Y_L7 + b"|" + Y_L6, True, 0, 0),
+    (SIX_LISTS, Y_L8, True, 0, 0),
+    (SIX_LISTS, Y_L9 + b"|" + Y_L5 + b"|" + Y_NEGATIVE, True, 0, 0),
+    (Y_BASIC, Y_L9, False, 0, 0),
+    (Y_PROLEPTIC, SIX_LISTS, False, 0, 0),
+    (b"DATE", YMD_L9, False, 0, 0),
+    (Y_L6, YM_L6, False, 0, 0),
+    (YMD_L9, YMD_T_HMS_Z_L9, False, 0, 0),
     # "the same Time setting, n aside"; "A type's number of fraction digits is n, or 0 without Fn."
     (HMSF3_L, HMSF4_L, True, 3, 4),
     (b"TIME-OF-DAY", HMSF3_L, False, 0, 3),
@@ -337,6 +501,13 @@ ZERO_COMPONENT = re.compile(rb"(?<![0-9])0[A-Z](?=.*[0-9])")
 
 # octets of durations, for all short texts of them
 SHORT_TEXT_OCTETS = [bytes([octet]) for octet in b"01YMWDTHS.,"]
+
+
+# "A year is read as four digits, `-` and four digits not all 0, or a sign and five digits not beginning with 0", or #103's
+# "sign with six to nine digits, the first not 0"
+YEAR = re.compile(rb"[0-9]{4}|-(?!0000)[0-9]{4}|[+-][1-9][0-9]{4,8}")
+
+YEAR_WORDS = tuple(words[0].encode() for words in YEARS_OF_TYPES[:8])
 
 
 def canonical_by_patterns(text):
@@ -402,11 +573,94 @@ def check_second_60():
     check_minutes()
 
 
+def number_of_lists(words):
+    """The number of a type with these Year settings in otherwise equal lists."""
+    if len(words) > 6 or len(set(words)) < len(words):
+        return 1
+    return 0 if len({word in (b"Basic", b"Proleptic") for word in words}) == 1 else 2
+
+
+def check_lists():
+    """#103 in types: up to three lists with any Year settings, each choice of them both ways, and six in every order."""
+    choices = [words for count in (1, 2, 3) for words in itertools.product(YEAR_WORDS, repeat=count)]
+    for count in range(4, 9):
+        choices += itertools.combinations(YEAR_WORDS, count)
+        choices += itertools.combinations(YEAR_WORDS[::-1], count)
+    choices += itertools.permutations(YEAR_WORDS[2:])
+    choices += ((*words, word) for words in itertools.combinations(YEAR_WORDS, 5) for word in words)
+    for words in choices:
+        read = read_type(date_type(b"YW", *words))
+        agree(read if is_refused(read) else 0, number_of_lists(words), "lists", words)
+    for limits, type_text, number in LIMITED_TYPES:
+        read = read_type(type_text, limits)
+        agree(read if is_refused(read) else 0, number, limits, type_text)
+
+
+def setting_by_pattern(text):
+    """The Year setting of a year's text, by its octets; None where it is not of the form."""
+    if not YEAR.fullmatch(text):
+        return None
+    if text[0] not in b"+-":
+        return b"Proleptic" if text < b"1582" else b"Basic"
+    return b"Negative" if len(text) == 5 else b"L%d" % (len(text) - 1)
+
+
+def year_texts():
+    """Up to twelve digits with any sign or none, beginning with 0 or not, and some with another octet among them."""
+    for sign, count, first, rest in itertools.product((b"", b"+", b"-"), range(13), (b"0", b"1", b"9"), (b"0", b"9", b"01")):
+        digits = (first + rest * 12)[:count]
+        yield sign + digits
+        yield from (sign + digits[:5] + other + digits[5:] for other in (b"-", b" ", b"\xb9"))
+    yield from (b"1581", b"1582", b"0001", b"+-12345", b"--12345", b"++12345", b"12345+", b"+12345\x00")
+
+
+def check_years():
+    """#103 in texts: each text of a year under types that name many settings, alone and before other fields."""
+    types = [[word.encode() for word in words] for words in YEARS_OF_TYPES]
+    for text in dict.fromkeys(year_texts()):
+        setting = setting_by_pattern(text)
+        for k, words in enumerate(types):
+            number = 3 if setting is None else 0 if setting in words else 5
+            agree(judge(date_type(b"Y", *words), NO_LIMITS, text), (number, None if number else text), words, text)
+            date = list(DATE_TAILS)[1:][k % 5]
+            whole = text + DATE_TAILS[date]
+            agree(judge(date_type(date, *words), NO_LIMITS, whole), (number, None if number else whole), words, whole)
+    for text, _, word in SIGNED_YEARS:
+        agree(setting_by_pattern(text), word.encode(), "pattern of", text)
+        for words in YEARS_OF_TYPES:
+            found = judge(date_type(b"Y", *(each.encode() for each in words)), NO_LIMITS, text)
+            agree(found, (0, text) if word in words else (5, None), words, text)
+
+
+def large_years():
+    """Years at both ends of each length, of either sign, and the ones next to them."""
+    for digits in range(5, 10):
+        lowest, highest = 10 ** (digits - 1), 10 ** digits - 1
+        for year in (*range(lowest, lowest + 30), *range(highest - 30, highest + 1)):
+            yield from ((b"L%d" % digits, year), (b"L%d" % digits, -year))
+
+
+def check_large_dates():
+    """Leap days and weeks of longer years: as Python's own calendar says of a year that is whole periods of 400 away."""
+    for type_text, text, number in LARGE_DATES:
+        agree(judge(type_text, NO_LIMITS, text), (number, None if number else text), type_text, text)
+    for word, year in large_years():
+        leap, _, weeks, _ = facts_by_datetime(year_of_datetime(year))
+        for date, end, exists in ((b"YMD", b"-02-29", leap), (b"YD", b"-366", leap), (b"YW", b"-W53", weeks == 53),
+                                  (b"YWD", b"-W53-7", weeks == 53), (b"YMD", b"-02-28", True), (b"YW", b"-W54", False)):
+            text = b"%+d" % year + end
+            agree(judge(date_type(date, word), NO_LIMITS, text), (0, text) if exists else (4, None), text)
+            agree(judge(date_type(date, b"Proleptic"), NO_LIMITS, text)[0], 5 if exists else 4, "Proleptic", text)
+
+
 def main():
     """Ends with a message at the first disagreement; prints nothing when there is none."""
     for limits, type_text, text, number, expected in TEXTS:
         agree(judge(type_text, limits, text), (number, expected), limits, type_text, text)
     check_second_60()
+    check_lists()
+    check_years()
+    check_large_dates()
     for type_text, (text, expected) in itertools.product((b"DURATION", INTERVAL_D), DURATIONS):
         agree(judge(type_text, NO_LIMITS, text), (0 if expected else 3, expected), type_text, text)
     check_durations()

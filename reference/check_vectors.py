@@ -1,6 +1,6 @@
 """Checks per.py against the vectors of an outside tool: the octets of each text, and the text of the octets."""
 
-from checks import INTERVAL_D, ROOM, agree, zones_at_second_60
+from checks import INTERVAL_D, ROOM, agree, check_years_in_vectors, zones_at_second_60
 from coding_lines import VECTORS
 from per import decode, encode
 from settings import NO_LIMITS
@@ -16,11 +16,12 @@ def check(type_text, text, octets):
 def main():
     """Prints nothing where all agree."""
     lines = VECTORS.read_bytes().splitlines()
-    agree(len(lines) >= 3000, True, "vectors are there")
+    agree(len(lines) >= 4000, True, "vectors are there")
     types = [line.split(b";")[0] for line in lines]
     agree(types.count(b"DURATION") == types.count(INTERVAL_D) >= 150, True, "vectors of durations are there")
     zones = zones_at_second_60(line.split(b";")[1] for line in lines)
     agree(zones, {b"", b"Z", b"+", b"-"}, "vectors of second 60 are there")
+    check_years_in_vectors(line.split(b";")[:2] for line in lines)
     for line in lines:
         type_text, text, octets = line.split(b";")
         check(type_text, text, bytes.fromhex(octets.decode("ascii")))

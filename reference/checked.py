@@ -11,8 +11,9 @@ import sys
 
 import der
 import per
-from checks import HM_LD, HMS_LD, HMS_Z, HMSF3_L, HMSF4_L, INTERVAL_D, ROOM
-from checks import Y_BASIC, Y_L5, Y_PROLEPTIC, YMD_BASIC, YMD_PROLEPTIC
+from checks import HM_LD, HMS_LD, HMS_Z, HMSF3_L, HMSF4_L, INTERVAL_D, ROOM, SIX_LISTS
+from checks import Y_BASIC, Y_L5, Y_L6, Y_L7, Y_L8, Y_L9, Y_NEGATIVE, Y_PROLEPTIC
+from checks import YM_L6, YMD_BASIC, YMD_L5, YMD_L9, YMD_PROLEPTIC, YW_L9
 from settings import Limits, NO_LIMITS
 
 WORKS = {b"per": per.encode, b"der": der.encode, b"unper": per.decode, b"under": der.decode}
@@ -23,6 +24,7 @@ LIMITS = {
     b"2000..2010": Limits((2000, 2010), False),
     b"2010..2000": Limits((2010, 2000), False),
     b"-44..-44": Limits((-44, -44), False),
+    b"999999999..2147483647": Limits((999999999, 2147483647), False),
     b"no24": Limits(None, True),
     b"2000..2010,no24": Limits((2000, 2010), True),
 }
@@ -35,6 +37,8 @@ ROOMS_OF_REFUSALS = (0, 1, 24)
 YMD_NEGATIVE_L5 = b"Basic=Date Date=YMD Year=Negative|Basic=Date Date=YMD Year=L5"
 HMSF3_LD = b"Basic=Time Time=HMSF3 Local-or-UTC=LD"
 Y_T_HMS_Z = b"Basic=Date-Time Date=Y Year=Basic Time=HMS Local-or-UTC=Z"
+YD_T_H_Z_L9 = b"Basic=Date-Time Date=YD Year=L9 Time=H Local-or-UTC=Z"
+SIX_OTHERWISE = b"|".join((Y_L9, Y_L6, Y_NEGATIVE, Y_L8, Y_L5, Y_L7))
 
 # type, limits, canonical text
 GOOD_VALUES = (
@@ -71,6 +75,27 @@ GOOD_VALUES = (
     (HMS_LD, b"none", b"08:00:60-15:59"),
     (HMSF3_LD, b"none", b"00:59:60.999+01"),
     (Y_T_HMS_Z, b"2000..2010,no24", b"2005T23:59:60Z"),
+    # an end of each Year setting with digits after a sign, of either sign
+    (Y_L5, b"none", b"+10000"),
+    (Y_L5, b"none", b"-99999"),
+    (Y_L6, b"none", b"+100000"),
+    (Y_L6, b"none", b"-999999"),
+    (Y_L7, b"none", b"-1000000"),
+    (Y_L7, b"none", b"+9999999"),
+    (Y_L8, b"none", b"+10000000"),
+    (Y_L8, b"none", b"-99999999"),
+    (Y_L9, b"none", b"-100000000"),
+    (Y_L9, b"none", b"-999999999"),
+    (Y_L9, b"999999999..2147483647", b"+999999999"),
+    # each length of a free integer, under types of two and of six lists
+    (Y_L7 + b"|" + Y_NEGATIVE, b"none", b"-0128"),
+    (SIX_LISTS, b"none", b"-0129"),
+    (SIX_OTHERWISE, b"none", b"-8388608"),
+    (SIX_OTHERWISE, b"none", b"-8388609"),
+    # the calendar in such years
+    (YMD_L9, b"none", b"+999999600-02-29"),
+    (YW_L9, b"none", b"-999999980-W53"),
+    (YD_T_H_Z_L9, b"none", b"-999999996-366T24Z"),
 )
 
 # type, limits, text
@@ -115,6 +140,31 @@ REFUSED_TEXTS = (
     (HMSF3_LD, b"none", b"12:34:60,500+01:00"),
     (Y_T_HMS_Z, b"2000..2010", b"1999T12:34:60Z"),
     (Y_T_HMS_Z, b"2000..2010", b"1999T23:59:60Z"),
+    # years of another length, of no form, and in which there is no such day
+    (Y_L9, b"none", b"+99999999"),
+    (Y_L8, b"none", b"-100000000"),
+    (Y_BASIC, b"none", b"+123456"),
+    (Y_L9, b"999999999..2147483647", b"+999999998"),
+    (Y_L6, b"none", b"+011985"),
+    (Y_L9, b"none", b"+1000000000"),
+    (SIX_LISTS, b"none", b"+2006"),
+    (SIX_LISTS, b"none", b"-00001"),
+    (SIX_LISTS, b"none", b"123456"),
+    (YMD_L5, b"none", b"+123456-02-30"),
+    (YMD_L9, b"none", b"+999999900-02-29"),
+    # words that are no Year, two equal lists wherever they stand, a seventh list, a name, a limit without its place in one list
+    (b"Basic=Date Date=Y Year=L4", b"none", b"+1234"),
+    (Y_L6 + b"|Basic=Date Date=Y Year=L10", b"none", b"+123456"),
+    (Y_L6 + b"|" + Y_L6, b"none", b"+123456"),
+    (Y_BASIC + b"|" + Y_L6 + b"|" + Y_L6, b"none", b"+123456"),
+    (Y_L6 + b"|" + Y_BASIC + b"|Year=L6 Date=Y Basic=Date", b"none", b"+123456"),
+    (SIX_LISTS + b"|" + Y_BASIC, b"none", b"+123456"),
+    (Y_L6 + b"|DATE", b"none", b"+123456"),
+    (Y_L6 + b"|" + Y_L7 + b"|" + HMS_Z, b"2000..2010", b"+123456"),
+    # the same without the limit, Years of two rows, and another difference
+    (Y_L6 + b"|" + Y_L7 + b"|" + HMS_Z, b"none", b"+123456"),
+    (Y_L6 + b"|" + Y_L7 + b"|" + Y_PROLEPTIC, b"none", b"+123456"),
+    (Y_L7 + b"|" + Y_L5 + b"|" + YM_L6, b"2000..2010", b"+123456-06"),
 )
 
 
@@ -147,25 +197,30 @@ def octets_of_second_60():
     )
 
 
-def refused_octets():
-    """Work, type, limits, octets."""
-    date = octets_of(b"der", b"DATE", b"2006-06-13")
+def octets_of_long_years():
+    """Work, type, limits, octets: years that other types wrote, years beyond nine digits, one of five octets, one that is not
+    the shortest in the type and out of it, a long year after choice 3; elements with another length, a leading 0, ten digits
+    and an octet left over."""
     return (
-        (b"unper", b"DATE", b"2000..2010", octets_of(b"per", b"DATE", b"2011-01-01")),
-        (b"unper", b"DATE", b"2010..2000", b"\x05\x58"),
-        (b"unper", b"TIME-OF-DAY", b"no24", b"\xC0\x00\x00"),
-        (b"unper", b"DATE", b"none", octets_of(b"per", YMD_PROLEPTIC, b"1581-12-31")),
-        (b"unper", b"DATE", b"none", b"\x05\x58\x00"),
-        (b"unper", b"DATE", b"none", b"\x05"),
-        (b"under", b"DATE", b"2000..2010", octets_of(b"der", b"DATE", b"2011-01-01")),
-        (b"under", b"DATE", b"2010..2000", date),
-        (b"under", b"TIME-OF-DAY", b"no24", octets_of(b"der", b"TIME-OF-DAY", b"24:00:00")),
-        (b"under", b"DATE", b"none", b"\x1F\x1F\x0815811231"),
-        (b"under", b"DATE", b"none", date + b"\x00"),
-        (b"under", b"DATE", b"none", date[:-1]),
-        (b"under", HMSF3_L, b"none", b"\x0E\x0C15:27:46,500"),
-        (b"under", HM_LD, b"none", b"\x0E\x0B15:27+01:00"),
-        (b"under", b"DATE", b"none", octets_of(b"der", YMD_BASIC, b"2006-06-13")),
+        (b"unper", Y_L5, b"none", octets_of(b"per", Y_L6, b"+123456")),
+        (b"unper", Y_L9 + b"|" + Y_L7, b"none", octets_of(b"per", Y_L8, b"-12345678")),
+        (b"unper", YMD_L5, b"none", octets_of(b"per", YMD_L9, b"+999999600-02-29")),
+        (b"unper", SIX_LISTS, b"none", b"\x04\x3B\x9A\xCA\x00"),
+        (b"unper", SIX_LISTS, b"none", b"\x04\x80\x00\x00\x00"),
+        (b"unper", SIX_LISTS, b"none", b"\x05\x00\x3B\x9A\xC9\xFF"),
+        (b"unper", SIX_LISTS, b"none", b"\x04\x00\x01\xE2\x40"),
+        (b"unper", Y_L5, b"none", b"\x04\x00\x01\xE2\x40"),
+        (b"unper", Y_BASIC, b"none", b"\xC0\xC0\x78\x90\x00"),
+        (b"under", Y_L5, b"none", octets_of(b"der", Y_L6, b"+123456")),
+        (b"under", Y_L6, b"none", b"\x0E\x07+011985"),
+        (b"under", Y_L9, b"none", b"\x0E\x0B+1000000000"),
+        (b"under", SIX_LISTS, b"none", octets_of(b"der", Y_L9, b"-999999999") + b"\x00"),
+    )
+
+
+def octets_of_durations():
+    """Work, type, limits, octets: durations that no encoder writes."""
+    return (
         # no component, weeks beside years, -1 years, a fraction of one digit that is 10, and an end inside a field
         (b"unper", b"DURATION", b"none", b"\x00"),
         (b"unper", b"DURATION", b"none", b"\xA0\x04\x08"),
@@ -188,7 +243,31 @@ def refused_octets():
         (b"under", INTERVAL_D, b"none", b"\x0E\x06PT0,5S"),
         (b"under", b"DURATION", b"none", b"\x1F\x22\x041Y6M\x00"),
         (b"under", INTERVAL_D, b"no24", b"\x0E\x05P1Y6M"),
+    )
+
+
+def refused_octets():
+    """Work, type, limits, octets."""
+    date = octets_of(b"der", b"DATE", b"2006-06-13")
+    return (
+        (b"unper", b"DATE", b"2000..2010", octets_of(b"per", b"DATE", b"2011-01-01")),
+        (b"unper", b"DATE", b"2010..2000", b"\x05\x58"),
+        (b"unper", b"TIME-OF-DAY", b"no24", b"\xC0\x00\x00"),
+        (b"unper", b"DATE", b"none", octets_of(b"per", YMD_PROLEPTIC, b"1581-12-31")),
+        (b"unper", b"DATE", b"none", b"\x05\x58\x00"),
+        (b"unper", b"DATE", b"none", b"\x05"),
+        (b"under", b"DATE", b"2000..2010", octets_of(b"der", b"DATE", b"2011-01-01")),
+        (b"under", b"DATE", b"2010..2000", date),
+        (b"under", b"TIME-OF-DAY", b"no24", octets_of(b"der", b"TIME-OF-DAY", b"24:00:00")),
+        (b"under", b"DATE", b"none", b"\x1F\x1F\x0815811231"),
+        (b"under", b"DATE", b"none", date + b"\x00"),
+        (b"under", b"DATE", b"none", date[:-1]),
+        (b"under", HMSF3_L, b"none", b"\x0E\x0C15:27:46,500"),
+        (b"under", HM_LD, b"none", b"\x0E\x0B15:27+01:00"),
+        (b"under", b"DATE", b"none", octets_of(b"der", YMD_BASIC, b"2006-06-13")),
+        *octets_of_durations(),
         *octets_of_second_60(),
+        *octets_of_long_years(),
     )
 
 

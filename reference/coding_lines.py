@@ -19,6 +19,7 @@ import duration_texts
 import elements
 import per
 import value_lines
+import year_texts
 from bits import fill, free_integer_bits, free_integer_length, integer_bits, number_bits, octet_bits
 from elements import element
 from per import DAY_TIME_FIELDS, read_octets, value_bits
@@ -26,6 +27,7 @@ from settings import is_refused, read_type
 from texts import read_text
 from value_lines import DATES, DATE_TAILS, MENU, TIMES, WINDOWS, YEAR_CHOICES, ZONES
 from value_lines import date_time_type, date_type, last_fields, time_text, time_type
+from year_texts import LARGE_CHOICES, LARGE_YEARS, SIGNED_YEARS
 
 ROOMS = {letter.encode(): length for length, letter in enumerate(string.ascii_letters)} | {b"*": 64}
 ROOM_OF = {length: letter for letter, length in ROOMS.items()}
@@ -50,6 +52,8 @@ INTEGERS = (
     0, 1, 4, 127, 128, 255, 256, 1581, 1582, 1748, 1749, 2010, 2276, 2277, 9999, 10000, 32767, 32768, 65535, 65536,
     99999, 100000, 8388607, 8388608, 2147483600, 2147483647, -1, -4, -128, -129, -256, -9999, -10000, -32768, -32769,
     -99999, -100000, -8388608, -8388609, -2147483600, -2147483648,
+    999999, 1000000, 9999999, 10000000, 99999999, 100000000, 999999999, 1000000000,
+    -999999, -1000000, -9999999, -10000000, -99999999, -100000000, -999999999, -1000000000,
 )
 
 # a difference from each side of its ends
@@ -151,6 +155,20 @@ def sample():
         (b"YMD", BASIC_PROLEPTIC, b"HMSF2", b"LD", b"2006-06-13T15:27:46.50-05:45"),
     ):
         yield date_time_type(date, choice, time, zone), text
+    yield from large_sample()
+
+
+def large_sample():
+    """The same with years of up to nine digits: each form of a date, and date-times."""
+    yield date_type(b"Y", b"L9"), b"-999999999"
+    yield date_type(b"Y", *SIGNED_YEARS), b"+8388608"
+    yield date_time_type(b"YMD", (b"L9",), b"HMSF9", b"LD"), b"-999999999-12-31T15:58:60.999999999+15:59"
+    yield date_type(b"YM", b"L6", b"Negative"), b"+100000-12"
+    yield date_type(b"YMD", b"L7"), b"-8388609-02-28"
+    yield date_type(b"YD", b"L8", b"L7"), b"+10000000-366"
+    yield date_time_type(b"YD", (b"L6", b"L5"), b"HM", b"Z"), b"+999999-365T24:00Z"
+    yield date_type(b"YW", b"L9"), b"+999999620-W53"
+    yield date_type(b"YWD", *SIGNED_YEARS[::-1]), b"-999999980-W53-7"
 
 
 def sample_octets():
@@ -170,6 +188,12 @@ def year_ends():
     """Each form of a date with each choice of years and each year at an end, both ways."""
     for date, years, year in itertools.product(DATES, YEAR_CHOICES, YEAR_ENDS):
         yield from both_ways(date_type(date, *years), year + DATE_TAILS[date])
+
+
+def large_year_ends():
+    """Ends of five to nine digits, two of three of them, both ways."""
+    for type_text, text in (each for k, each in enumerate(year_texts.year_ends()) if k % 3):
+        yield from both_ways(type_text, text)
 
 
 def near_years():
@@ -230,6 +254,11 @@ def date_times():
     yield from both_ways_of(value_lines.good_date_times())
 
 
+def large_date_times():
+    """Date-times with years of up to nine digits, each third of them, both ways."""
+    yield from both_ways_of(itertools.islice(value_lines.large_date_times(), 0, None, 3))
+
+
 def windows():
     """Years on both sides of each window's ends, both ways, and after choice 3."""
     for limits, years, year in itertools.product(WINDOWS, (BASIC, PROLEPTIC, BASIC_PROLEPTIC, NEGATIVE, NEGATIVE_L5),
@@ -238,6 +267,7 @@ def windows():
     for limits, year in itertools.product((b"1", b"2", b"4", b"5", b"9"), (b"1999", b"2000", b"2010", b"2011", b"1581")):
         yield from both_ways(b"DATE-TIME", year + b"-12-31T23:59:60", limits)
         yield bits_line(date_type(b"Y", *BASIC), "11" + free_integer_bits(int(year)), limits)
+    yield from both_ways_of(value_lines.large_years_in_windows())
 
 
 def no_hour_24():
@@ -256,6 +286,8 @@ def boundaries():
     yield from both_ways_of(value_lines.date_boundaries())
     yield from itertools.islice(both_ways_of(value_lines.time_boundaries()), 0, None, 3)
     yield from itertools.islice(both_ways_of(value_lines.week_boundaries()), 0, None, 3)
+    for type_text, text in year_texts.some_leap_days_and_weeks():
+        yield from both_ways(type_text, text)
 
 
 def second_60():
@@ -297,7 +329,7 @@ def filling():
 
 def free_integers():
     """Years as free integers of every length, the fewest octets or not, alone and before other fields."""
-    for years, bits in itertools.product(YEAR_CHOICES[:5] + YEAR_CHOICES[6:7], integers()):
+    for years, bits in itertools.product(YEAR_CHOICES[:5] + YEAR_CHOICES[6:7] + LARGE_CHOICES[:4], integers()):
         yield bits_line(date_type(b"Y", *years), year_start(years) + bits)
     for years, bits in itertools.product((BASIC, NEGATIVE_L5), integers()):
         yield bits_line(date_type(b"YMD", *years), year_start(years) + bits + "0001" + "11100")
@@ -309,6 +341,7 @@ def free_integer_lengths():
     """Lengths 0 to 5 and others before too few octets, enough of them and too many."""
     types = [(date_type(b"Y", *years), year_start(years)) for years in (BASIC, BASIC_PROLEPTIC, NEGATIVE, L5)]
     types += [(date_type(b"YMD", *NEGATIVE_L5), ""), (time_type(b"HF9", b"L"), "01111" + "1")]
+    types += [(date_type(b"Y", b"L9"), ""), (date_type(b"YWD", *SIGNED_YEARS), "")]
     types += [(time_type(b"HMSF4", b"LD"), "01111" + "011011" + "101110" + "1")]
     for (type_text, start), length in itertools.product(types, (0, 1, 2, 3, 4, 5, 6, 8, 127, 128, 129, 130, 255)):
         for count in sorted({0, 3, 5, max(length % 128, 1) - 1, length % 128, length % 128 + 1}):
@@ -478,7 +511,7 @@ def causes_in_elements():
     """Two and more causes in one element: "When several hold, the lowest number is given"."""
     type_text = date_time_type(b"YMD", BASIC, b"HMSF2", b"LD")
     dates = (b"2006-06-13", b"2006-02-29", b"2006-13-01", b"1066-06-13", b"1066-02-30", b"-0001-02-29",
-             b"+12006-06-13", b"2006-6-13")
+             b"+12006-06-13", b"+123456789-06-13", b"-123456-02-30", b"+012006-06-13", b"2006-6-13")
     times = (b"12:00:00.00+00", b"12:00:00,50+00", b"12:00:00.50+01:00", b"12:00:00,50+01:00", b"24:00:00.00+00",
              b"24:00:00,00-01:00", b"24:00:00.01+00", b"24:00:00,01+01:00", b"12:60:00,00+00", b"12:00:00,00+16:00",
              b"12:00:00,00-00:00", b"12:00:00,5+01:00", b"12:00:00,50Z")
@@ -531,14 +564,15 @@ def causes_in_names():
 
 def causes_in_years():
     """A free integer's causes with the room's, the window's and each Year setting's."""
-    for years, bits in itertools.product((BASIC, PROLEPTIC, L5), itertools.islice(integers(), 0, None, 2)):
+    for years, bits in itertools.product((BASIC, PROLEPTIC, L5, (b"L9",)), itertools.islice(integers(), 0, None, 2)):
         yield bits_line(date_type(b"YM", *years), year_start(years) + bits + "1100", b"1", b"a")
         yield bits_line(date_type(b"YM", *years), year_start(years) + bits + "0101", b"7", b"c")
 
 
 def causes_in_texts():
     """Two and more causes in one encoding: "When several hold, the lowest number is given"."""
-    dates = (b"2006-06-13", b"2006-02-29", b"2006-13-01", b"1066-06-13", b"1066-02-30", b"2006-6-13", b"+12006-06-13", b"")
+    dates = (b"2006-06-13", b"2006-02-29", b"2006-13-01", b"1066-06-13", b"1066-02-30", b"2006-6-13", b"+12006-06-13",
+             b"-123456789-06-13", b"+123456-02-30", b"")
     times = (b"T15:27:46", b"T24:00:00", b"T24:00:01", b"T15:60:46", b"T15:27", b"T24:00:00Z", b"")
     for date, time, limits, room in itertools.product(dates, times, (b"0", b"9"), (b"*", b"d", b"a")):
         yield encode_line(b"DATE-TIME", date + time, limits, room)
@@ -610,6 +644,28 @@ def cross_table_in_der():
         yield element_line(type_text, octets, limits, (b"*", b"*", b"a")[k % 3])
 
 
+def years_for_others():
+    """Years of each length under types that name others: "The refusal, whatever the reader's room, is 5"."""
+    for k, (type_text, text, readers) in enumerate(year_texts.years_for_others()):
+        octets = fill(bits_of(type_text, text))
+        for reader in readers:
+            yield decode_line(reader, octets, room=(b"*", b"*", b"a")[k % 3])
+            yield element_line(reader, element(type_text, text), room=(b"*", b"a", b"*")[k % 3])
+
+
+def date_times_for_others():
+    """The same of date-times, also where the fields behind the year are of another type."""
+    ends = ((b"H", b"L", b"T24"), (b"HMSF3", b"LD", b"T15:27:46.500-01:30"), (b"HMS", b"Z", b"T23:59:60Z"))
+    choices = [(year,) for year in SIGNED_YEARS] + [*LARGE_CHOICES[6:9], BASIC]
+    for k, year in enumerate(year_texts.YEARS_FOR_OTHERS):
+        (time, zone, end), date = ends[k % 3], DATES[k % 6]
+        type_text, text = date_time_type(date, SIGNED_YEARS, time, zone), year + DATE_TAILS[date] + end
+        for years in choices:
+            reader = date_time_type(date, years, time, zone)
+            yield decode_line(reader, fill(bits_of(type_text, text)))
+            yield element_line(reader, element(type_text, text))
+
+
 def refused_types():
     """Types with refusal 1 or 2, with inputs that would be good, of no form, or empty, both ways."""
     y, hms = date_type(b"Y", b"Basic"), time_type(b"HMS", b"L")
@@ -617,6 +673,8 @@ def refused_types():
         value_lines.misplaced_names(), value_lines.misplaced_spaces(), value_lines.wrong_bars(),
         value_lines.other_types_of_x_680(), value_lines.ones_before_twos(), value_lines.unknown_settings(),
     ))[::4]
+    types += itertools.islice((type_text for type_text, _ in year_texts.year_lists()), 0, None, 5)
+    types += itertools.islice(year_texts.other_lists(), 0, None, 4)
     lists = (y, hms, date_type(b"YMD", b"L5"), date_type(b"Y", b"L5"), time_type(b"HMSF3", b"L"))
     types += [first + b"|" + second for first, second in itertools.product(lists, lists)]
     for k, type_text in enumerate(types):
@@ -633,6 +691,7 @@ def restrictions_without_place():
         (b"DATE", b"2006-06-13"), (b"TIME-OF-DAY", b"15:27:46"), (b"DATE-TIME", b"2006-06-13T15:27:46"),
         (date_type(b"YMD", *NEGATIVE_L5), b"-0044-03-15"), (time_type(b"HMSF3", b"LD"), b"24:00:00.000+00"),
         (date_time_type(b"Y", BASIC_PROLEPTIC, b"H", b"Z"), b"0000T24Z"),
+        (date_type(b"Y", *SIGNED_YEARS), b"+999999999"),
     )):
         yield from both_ways(type_text, text, limits)
         yield encode_line(type_text, b"", limits)
@@ -656,6 +715,12 @@ class Numbers:
         return things[self.below(len(things))]
 
 
+def any_large_year(numbers, setting):
+    """A year of six to nine digits."""
+    lowest = 10 ** (int(setting[1:]) - 1)
+    return numbers.one_of((b"+", b"-")) + b"%d" % (lowest + numbers.below(9 * lowest))
+
+
 def any_date(numbers, date, setting):
     """A text of a date with fields from all their numbers, and so at times of a date that doesn't exist."""
     year = {
@@ -663,7 +728,7 @@ def any_date(numbers, date, setting):
         b"Proleptic": b"%04d" % numbers.below(1582),
         b"Negative": b"-%04d" % (1 + numbers.below(9999)),
         b"L5": numbers.one_of((b"+", b"-")) + b"%05d" % (10000 + numbers.below(90000)),
-    }[setting]
+    }.get(setting) or any_large_year(numbers, setting)
     month, day, week = 1 + numbers.below(12), 1 + numbers.below(31), 1 + numbers.below(53)
     return year + {
         b"Y": b"", b"YM": b"-%02d" % month, b"YMD": b"-%02d-%02d" % (month, day), b"YD": b"-%03d" % (1 + numbers.below(366)),
@@ -688,6 +753,18 @@ def any_value(numbers):
     return numbers.one_of((
         (date_type(date, *years), date_text),
         (time_type(time, zone), clock),
+        (date_time_type(date, years, time, zone), date_text + b"T" + clock),
+    ))
+
+
+def any_year(numbers):
+    """A type that names larger years and a text of its form, at times with a year that it doesn't name."""
+    date, years = numbers.one_of(DATES), numbers.one_of(LARGE_CHOICES)
+    time, zone = numbers.one_of(TIMES), numbers.one_of(ZONES)
+    setting = numbers.one_of((*years, *years, numbers.one_of(LARGE_YEARS)))
+    date_text, clock = any_date(numbers, date, setting), any_time(numbers, time, zone)
+    return numbers.one_of((
+        (date_type(date, *years), date_text),
         (date_time_type(date, years, time, zone), date_text + b"T" + clock),
     ))
 
@@ -734,6 +811,17 @@ def any_elements():
     for _ in range(900):
         type_text, text = numbers.one_of(values)
         yield element_line(type_text, any_element(numbers, type_text, text), room=numbers.one_of((b"*", b"*", b"k")))
+
+
+def any_years():
+    """Years of six to nine digits of any number both ways, elements that are changed, and octets behind a length."""
+    numbers = Numbers(8)
+    for _ in range(80):
+        type_text, text = any_year(numbers)
+        yield from both_ways(type_text, text)
+        yield element_line(type_text, any_element(numbers, type_text, text))
+        octets = bytes([1 + numbers.below(5)]) + bytes(numbers.below(256) for _ in range(5))
+        yield decode_line(type_text, octets + bytes(numbers.below(256) for _ in range(numbers.below(9))))
 
 
 def long_inputs():
@@ -912,11 +1000,12 @@ def last_line():
 
 
 SECTIONS = (
-    checked_values, year_ends, near_years, fractions, whole_times, differences, difference_fields, date_times, windows,
-    no_hour_24, boundaries, second_60, changed_octets, filling, free_integers, free_integer_lengths, other_choice,
-    fraction_fields, fractions_at_hour_24, date_fields, time_fields, rooms, rooms_in_der, changed_elements,
-    lengths_of_elements, names_in_elements, causes_in_octets, causes_in_elements, causes_at_second_60, causes_in_names,
-    causes_in_years, causes_in_texts, cross_table, cross_table_in_der, refused_types, restrictions_without_place, any_values,
+    checked_values, year_ends, large_year_ends, near_years, fractions, whole_times, differences, difference_fields,
+    date_times, large_date_times, windows, no_hour_24, boundaries, second_60, changed_octets, filling, free_integers,
+    free_integer_lengths, other_choice, fraction_fields, fractions_at_hour_24, date_fields, time_fields, rooms,
+    rooms_in_der, changed_elements, lengths_of_elements, names_in_elements, causes_in_octets, causes_in_elements,
+    causes_at_second_60, causes_in_names, causes_in_years, causes_in_texts, cross_table, cross_table_in_der,
+    years_for_others, date_times_for_others, refused_types, restrictions_without_place, any_values, any_years,
     any_octets, any_elements, long_inputs, small_hex, vectors, vectors_of_der, other_lines, durations,
     fields_of_durations, changed_durations, elements_of_durations, rooms_of_durations, limits_on_durations,
     durations_and_points, any_durations, last_line,

@@ -16,6 +16,7 @@ import per
 import coding_lines
 import elements
 import value_lines
+import year_texts
 from bits import fill
 from lines import split_lines
 from coding_lines import BASIC, BASIC_PROLEPTIC, HEX, L5, LONGEST_LINE, NEGATIVE, NEGATIVE_L5, PROLEPTIC, bits_of
@@ -23,6 +24,7 @@ from elements import der_vectors, element
 from settings import NO_LIMITS
 from value_lines import DATES, DATE_TAILS, TIMES, WHOLE_TIMES, YEAR_CHOICES, ZONES
 from value_lines import date_time_type, date_type, last_fields, time_text, time_type
+from year_texts import A_YEAR, LARGE_CHOICES, SIGNED_YEARS
 
 # more octets than any result has: a duration has up to 74
 ROOM = 136
@@ -79,7 +81,7 @@ FOUR_WORKS = (*THREE_WORKS, b"under")
 HEX_WORKS = FOUR_WORKS[2:]
 
 # a year of each setting, common and of 52 weeks
-COMMON_YEARS = {b"Basic": b"2006", b"Proleptic": b"1066", b"Negative": b"-0043", b"L5": b"+12007"}
+COMMON_YEARS = A_YEAR | {b"Basic": b"2006", b"Proleptic": b"1066", b"Negative": b"-0043", b"L5": b"+12007"}
 
 # what may stand after the year in a text, and is "no such date" in a common year of 52 weeks
 NO_SUCH_TAILS = {b"YM": b"-13", b"YMD": b"-02-29", b"YD": b"-366", b"YW": b"-W53", b"YWD": b"-W53-1"}
@@ -117,6 +119,11 @@ SAMPLE = (
     (date_time_type(b"YM", L5, b"HF4", b"L"), b"+10000-02T11.4096"),
     (date_time_type(b"YD", NEGATIVE, b"HM", b"Z"), b"-0400-366T00:00Z"),
     (date_time_type(b"YWD", BASIC, b"HMSF2", b"LD"), b"2277-W01-1T18:19:20.99+01:59"),
+    (date_type(b"Y", *SIGNED_YEARS), b"-100000"),
+    (date_type(b"YWD", b"L9"), b"+999999999-W52-7"),
+    (date_type(b"YD", b"L7", b"L8"), b"-8388608-366"),
+    (date_time_type(b"YMD", (b"L8", b"Negative"), b"HMS", b"Z"), b"+99999999-12-31T23:59:60Z"),
+    (date_type(b"YM", b"L6", b"L9"), b"-999999999-10"),
 )
 
 
@@ -219,6 +226,25 @@ def vectors():
             yield each.replace(b"unper", b"under")
 
 
+def long_years():
+    """Years of six to nine digits, half of them in every work and the others in one; and days and weeks that not every year
+    has, some in every work and many in one."""
+    for k, (type_text, text) in enumerate(itertools.chain(year_texts.year_ends(), year_texts.large_dates())):
+        lines = list(all_works(type_text, text))
+        yield from lines if k % 4 in (0, 3) else [lines[k % len(lines)]]
+    for type_text, text in year_texts.some_leap_days_and_weeks():
+        yield from all_works(type_text, text)
+    for k, (type_text, text) in enumerate(year_texts.leap_days_and_weeks()):
+        lines = list(all_works(type_text, text))
+        yield lines[k % len(lines)]
+
+
+def long_date_times():
+    """Date-times with such years: two of three in every work."""
+    for k, (type_text, text) in enumerate(without_limits(value_lines.large_date_times())):
+        yield from all_works(type_text, text) if k % 3 else [line(b"der", type_text, text)]
+
+
 def boundaries():
     """Dates, times and differences below, at and above their ends: all written in DER, a third in every work, and a
     third read in DER."""
@@ -250,18 +276,18 @@ def second_60():
 def other_forms():
     """Years of every shape, and texts of each form under the types of all others."""
     questions = itertools.chain(value_lines.year_shapes(), value_lines.cross_table())
-    for k, (type_text, text) in enumerate(without_limits(questions)):
+    for k, (type_text, text) in enumerate(itertools.chain(without_limits(questions), year_texts.year_shapes())):
         yield line((b"der", b"per")[k % 2], type_text, text)
         if k % 4 == 0:
             yield from under_lines((type_text, octets) for octets in elements.spellings(type_text, text))
 
 
 def dates_to_refuse(date, years):
-    """A type, a text of it, and texts of no such date, which Y has not, and of years of other settings."""
+    """A type, a text of it, and texts of no such date, which Y has not, and of the first and the last other setting's years."""
     type_text, year = date_type(date, *years), COMMON_YEARS[years[0]]
     others = [COMMON_YEARS[setting] for setting in COMMON_YEARS if setting not in years]
     no_such = [year + NO_SUCH_TAILS[date]] if date in NO_SUCH_TAILS else []
-    return type_text, year + DATE_TAILS[date], no_such + [other + DATE_TAILS[date] for other in others[:2]]
+    return type_text, year + DATE_TAILS[date], no_such + [other + DATE_TAILS[date] for other in (others[0], others[-1])]
 
 
 def times_to_refuse(time, zone):
@@ -289,6 +315,10 @@ def types_to_refuse():
     for time, zone in itertools.product(TIMES, ZONES):
         yield times_to_refuse(time, zone)
     for date, years, time, zone in itertools.islice(value_lines.some_date_times(), 0, None, 3):
+        yield date_times_to_refuse(date, years, time, zone)
+    for date, years in itertools.islice(itertools.product(DATES, LARGE_CHOICES), 0, None, 5):
+        yield dates_to_refuse(date, years)
+    for date, years, time, zone in itertools.islice(value_lines.some_large_date_times(), 3, None, 13):
         yield date_times_to_refuse(date, years, time, zone)
 
 
@@ -391,6 +421,15 @@ def dates_in_octets():
                 yield under_line(type_text, element(written, text))
 
 
+def long_years_in_octets():
+    """Encodings of years of each length under types that name others, in PER or in DER, and of date-times in both."""
+    for k, (type_text, text, readers) in enumerate(year_texts.years_for_others()):
+        octets = fill(bits_of(type_text, text))
+        for step, reader in enumerate(readers):
+            yield (unper_line(reader, octets), under_line(reader, element(type_text, text)))[(k + step) % 2]
+    yield from of_coding_lines(coding_lines.date_times_for_others(), 1)
+
+
 def times_in_octets():
     """Encodings of times under every n, and under other times and zones."""
     for time, zone in itertools.product(WHOLE_TIMES, ZONES):
@@ -438,6 +477,15 @@ def any_values():
         yield from all_works(*coding_lines.any_value(numbers))
 
 
+def any_years():
+    """Years of six to nine digits of any number, in every work."""
+    numbers = coding_lines.Numbers(9)
+    for _ in range(50):
+        type_text, text = coding_lines.any_year(numbers)
+        yield from all_works(type_text, text)
+        yield under_line(type_text, coding_lines.any_element(numbers, type_text, text))
+
+
 def any_octets():
     """Octets of any number under types of every form; for DER also behind the tag, and inside an element."""
     numbers = coding_lines.Numbers(4)
@@ -462,6 +510,16 @@ def refused_types():
     for type_text, given in itertools.product(types[::40] + [date_type(b"Y", b"Basic", b"L5"), b""],
                                               (b"", b"2006-06-13", b"0558", b"5", b"x")):
         yield from (line(work, type_text, given) for work in FOUR_WORKS)
+
+
+def lists_of_years():
+    """Many lists that differ only in Year, and others, of one row or not, in works in turn; where there is no encoding to read,
+    the octets of the text."""
+    for k, (type_text, text) in enumerate(without_limits(value_lines.lists_of_years())):
+        lines = list(all_works(type_text, text))
+        lines += (line(work, type_text, to_hex(text)) for work in HEX_WORKS[len(lines) - 2:])
+        yield lines[k % len(lines)]
+    yield from in_turn(without_limits(value_lines.changed_years()))
 
 
 def all_orders():
@@ -723,10 +781,11 @@ def last_line():
 # each line once
 SECTIONS = (
     first_lines, checked_values, good_values, vectors, boundaries, second_60, other_forms, refusals, other_spellings,
-    changed_texts, changed_types, changed_octets, changed_elements, names_in_elements, dates_in_octets,
-    times_in_octets, date_times_in_octets, fields_in_octets, any_values, any_octets, refused_types, all_orders,
-    hex_digits, no_hex_digits, every_octet, semicolons, other_works, long_parts, good_durations, other_durations,
-    durations_in_octets, durations_in_elements, durations_and_points, types_of_durations, any_durations,
+    changed_texts, changed_types, changed_octets, changed_elements, names_in_elements, dates_in_octets, times_in_octets,
+    date_times_in_octets, fields_in_octets, any_values, any_octets, refused_types, all_orders, hex_digits,
+    no_hex_digits, every_octet, semicolons, other_works, long_parts, good_durations, other_durations,
+    durations_in_octets, durations_in_elements, durations_and_points, types_of_durations, any_durations, long_years,
+    long_date_times, long_years_in_octets, lists_of_years, any_years,
 )
 
 # lines whose order counts, some of them more than once

@@ -4,6 +4,7 @@ from answers import answer_on_octets, answer_on_text
 from bits import Bits, Field, Unreadable, field_bits, fill, free_integer_bits, number_bits
 from durations import canonical, duration_bits, take_duration
 from texts import Date, Difference, Fraction, TIME_FIELDS, Time, Value
+from years import YEAR, families
 
 # "0: year - 2005 in 4 bits (2005 to 2020). 1: year - 2021 in 8 (2021 to 2276). 2: year - 1749 in 8 (1749 to 2004)"
 NEAR_YEARS = (Field(2005, 2020, 4), Field(2021, 2276, 8), Field(1749, 2004, 8))
@@ -36,8 +37,9 @@ DIFFERENCE_HOURS, DIFFERENCE_MINUTES = Field(-15, 16, 5), Field(1, 59, 6)
 
 
 def has_choice_bits(t):
-    """"Year, Basic or Proleptic: two choice bits"; "Year, Negative or L5: a free integer, no choice bits"."""
-    return t.years <= {"Basic", "Proleptic"}
+    """"Year, Basic or Proleptic: two choice bits"; "Year, Negative or L5: a free integer, no choice bits", and so the longer
+    ones of #103: "Free integers still need at most four octets"."""
+    return families(t.years) == {YEAR}
 
 
 def year_bits(t, year):

@@ -1,6 +1,10 @@
-"""Types of document 01, "What a type is": "A type is one settings list, or two with `|` between them"."""
+"""Types of document 01, "What a type is", and of #103: "A type may be up to six lists that differ only in Year, all of one
+row, no Year twice"."""
 
+import itertools
 from collections import namedtuple
+
+from years import YEAR_SETTINGS, families
 
 # years is the set of each "Year setting that the type names"; time is the Time setting, "n aside", and digits its n;
 # interval is the Interval-type setting
@@ -19,7 +23,7 @@ FRACTION_TIMES = tuple(b"%sF%d" % (time, n) for time in WHOLE_TIMES for n in ran
 SETTINGS = {
     b"Basic": (b"Date", b"Time", b"Date-Time", b"Interval"),
     b"Date": (b"Y", b"YM", b"YMD", b"YD", b"YW", b"YWD"),
-    b"Year": (b"Basic", b"Proleptic", b"Negative", b"L5"),
+    b"Year": tuple(setting.word.encode("ascii") for setting in YEAR_SETTINGS),
     b"Time": WHOLE_TIMES + FRACTION_TIMES,
     b"Local-or-UTC": (b"L", b"Z", b"LD"),
     b"Interval-type": (b"D",),
@@ -33,8 +37,8 @@ NAMES = {
     b"DURATION": b"Basic=Interval Interval-type=D",
 }
 
-# "only as Basic with Proleptic or Negative with L5"
-YEARS_OF_ONE_ROW = ({b"Basic", b"Proleptic"}, {b"Negative", b"L5"})
+# "1 for more than six lists"
+MOST_LISTS = 6
 
 
 def has_date(settings):
@@ -82,13 +86,19 @@ def read_list(text):
 
 
 def read_lists(text):
-    """"A name stands alone; beside a bar it is refusal 1. So are three or more lists, and a space next to the bar"."""
+    """"A name stands alone; beside a bar it is refusal 1", as are "more than six lists" and "a space next to the bar"; None
+    for refusal 1."""
     if text in NAMES:
         return [read_list(NAMES[text])]
     lists = [read_list(part) for part in text.split(b"|")]
-    if len(lists) > 2 or None in lists:
+    if len(lists) > MOST_LISTS or None in lists:
         return None
     return lists
+
+
+def two_are_equal(lists):
+    """Whether any two are "two equal lists", "a Year twice in otherwise equal lists" among them."""
+    return any(first == second for first, second in itertools.combinations(lists, 2))
 
 
 def limits_have_place(limits, lists):
@@ -98,16 +108,24 @@ def limits_have_place(limits, lists):
     return window_has_place and no_hour_24_has_place
 
 
-def make_one_row(first, second):
-    """"Two lists may differ only in Year, and then only as Basic with Proleptic or Negative with L5"."""
-    others = (name for name in SETTINGS if name != b"Year")
-    alike = all(first.get(name) == second.get(name) for name in others)
-    return alike and {first.get(b"Year"), second.get(b"Year")} in YEARS_OF_ONE_ROW
-
-
 def word(setting):
     """A setting as a word; None where the list lacks it."""
     return None if setting is None else setting.decode("ascii")
+
+
+def year_words(lists):
+    """The Year settings that the lists name."""
+    return frozenset(word(settings[b"Year"]) for settings in lists if b"Year" in settings)
+
+
+def without_year(settings):
+    """A list's settings but Year."""
+    return {name: setting for name, setting in settings.items() if name != b"Year"}
+
+
+def make_one_row(first, second):
+    """"lists that differ only in Year, all of one row"."""
+    return without_year(first) == without_year(second) and len(families(year_words((first, second)))) <= 1
 
 
 def split_time(setting):
@@ -118,13 +136,13 @@ def split_time(setting):
 
 
 def make_type(lists, name, limits):
-    """The type of one list, or of two that make one row."""
+    """The type of one list, or of several that make one row."""
     settings = lists[0]
     time, digits = split_time(settings.get(b"Time"))
     return Type(
         basic=word(settings[b"Basic"]),
         date=word(settings.get(b"Date")),
-        years=frozenset(word(each[b"Year"]) for each in lists if b"Year" in each),
+        years=year_words(lists),
         time=word(time),
         digits=digits,
         zone=word(settings.get(b"Local-or-UTC")),
@@ -136,13 +154,12 @@ def make_type(lists, name, limits):
 
 
 def read_type(text, limits=NO_LIMITS):
-    """The type, or 1 or 2: "two equal lists, are refusal 1; any other difference is 2"; "the lowest number is given"."""
+    """The type, or "1 for more than six lists or a Year twice in otherwise equal lists, 2 for any other difference"; "the
+    lowest number is given"."""
     lists = read_lists(text)
-    if lists is None or not limits_have_place(limits, lists):
+    if lists is None or two_are_equal(lists) or not limits_have_place(limits, lists):
         return 1
-    if len(lists) == 2 and lists[0] == lists[1]:
-        return 1
-    if len(lists) == 2 and not make_one_row(*lists):
+    if not all(make_one_row(lists[0], other) for other in lists[1:]):
         return 2
     return make_type(lists, text if text in NAMES else None, limits)
 
@@ -154,8 +171,7 @@ def is_refused(type_or_number):
 
 def years_are_alike(a, b):
     """"either every Year of both is Basic or Proleptic, or none is"."""
-    four_digits = [year in ("Basic", "Proleptic") for year in (*a.years, *b.years)]
-    return all(four_digits) or not any(four_digits)
+    return len(families(a.years | b.years)) <= 1
 
 
 def same_rows(a, b):

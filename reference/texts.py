@@ -1,4 +1,4 @@
-"""Texts and values of document 01, "Texts" and "What exists", and of #102: "Extended format, no quotation marks"."""
+"""Texts and values of document 01, "Texts" and "What exists", and of #102 and #103: "Extended format, no quotation marks"."""
 
 from collections import namedtuple
 
@@ -6,6 +6,7 @@ import gregorian
 from durations import canonical, duration_text, read_duration
 from octets import NotOfTheForm, Octets
 from settings import is_refused, read_type
+from years import DIGITS_AFTER_A_SIGN, YEAR_RANGES
 
 # "A value is a date, a time, or a date with a time", or a canonical duration: what it lacks is None
 Value = namedtuple("Value", "date time duration")
@@ -38,27 +39,18 @@ TIME_FIELDS = {"H": 1, "HM": 2, "HMS": 3, "HF": 1, "HMF": 2, "HMSF": 3}
 MINUTES_OF_A_DAY = 24 * 60
 LAST_MINUTE = 23 * 60 + 59
 
-# "Basic (1582 to 9999), Proleptic (0000 to 1581), Negative (-9999 to -0001), L5 (five digits after a sign,
-# first digit not 0)"
-YEAR_RANGES = (
-    ("Basic", 1582, 9999),
-    ("Proleptic", 0, 1581),
-    ("Negative", -9999, -1),
-    ("L5", 10000, 99999),
-    ("L5", -99999, -10000),
-)
-
 
 def read_year(octets):
-    """"four digits, `-` and four digits not all 0, or a sign and five digits not beginning with 0"."""
+    """"four digits, `-` and four digits not all 0, or a sign and five digits not beginning with 0"; #103: "A sign with six
+    to nine digits, the first not 0, is from now on of the form"."""
     if not octets.next_is(SIGNS):
         return octets.take_digits(4)
     sign = octets.take_one(SIGNS)
     count = octets.count_digits()
     if count == 4 and sign == b"-":
         return -read_not_all_zero(octets)
-    if count == 5 and not octets.next_is(b"0"):
-        number = octets.take_digits(5)
+    if count in DIGITS_AFTER_A_SIGN and not octets.next_is(b"0"):
+        number = octets.take_digits(count)
         return -number if sign == b"-" else number
     raise NotOfTheForm
 
@@ -207,12 +199,12 @@ def year_setting(year):
 
 
 def year_text(year):
-    """Four digits, `-` and four digits, or a sign and five digits."""
+    """Four digits, `-` and four digits, or a sign and as many digits as it takes."""
     if 0 <= year <= 9999:
         return b"%04d" % year
     if -9999 <= year < 0:
         return b"-%04d" % -year
-    return b"%+06d" % year
+    return b"%+d" % year
 
 
 def date_text(date):

@@ -10,9 +10,12 @@ import itertools
 import sys
 
 import duration_texts
+import year_texts
 from duration_texts import LIST, OTHER_LIST
 from settings import Limits, NO_LIMITS, fraction_digits, is_refused, read_type, same_rows
 from texts import LAST_MINUTE, MINUTES_OF_A_DAY, judge
+from year_texts import ALL_YEARS, A_YEAR, DATES, DATE_TAILS, LARGE_CHOICES, SIGNED_YEARS, YEARS, YEARS_AT_WINDOWS
+from year_texts import YEARS_FOR_PAIRS, YEAR_CHOICES, YEAR_TEXTS, date_time_type, date_type
 
 MENU = {
     b"0": NO_LIMITS,
@@ -29,47 +32,11 @@ MENU = {
 
 WINDOWS = (b"1", b"2", b"3", b"4", b"5", b"6", b"7")
 
-# "Base settings"
-DATES = (b"Y", b"YM", b"YMD", b"YD", b"YW", b"YWD")
-YEARS = (b"Basic", b"Proleptic", b"Negative", b"L5")
+# "Base settings"; those of dates are in year_texts.py
 WHOLE_TIMES = (b"H", b"HM", b"HMS")
 TIMES = WHOLE_TIMES + tuple(b"%sF%d" % (time, n) for time in WHOLE_TIMES for n in range(1, 10))
 ZONES = (b"L", b"Z", b"LD")
 NAMES = (b"DATE", b"TIME-OF-DAY", b"DATE-TIME")
-
-# one list, or "Basic with Proleptic or Negative with L5"
-YEAR_CHOICES = (
-    (b"Basic",), (b"Proleptic",), (b"Negative",), (b"L5",),
-    (b"Basic", b"Proleptic"), (b"Proleptic", b"Basic"), (b"Negative", b"L5"), (b"L5", b"Negative"),
-)
-
-# a year of each setting
-A_YEAR = {b"Basic": b"2006", b"Proleptic": b"1066", b"Negative": b"-0044", b"L5": b"+12006"}
-
-# years of every shape
-YEAR_TEXTS = (
-    b"0000", b"0001", b"0004", b"0100", b"0400", b"0999", b"1000", b"1580", b"1581", b"1582", b"1583", b"1999",
-    b"2000", b"2006", b"2010", b"2011", b"9998", b"9999",
-    b"-0000", b"-0001", b"-0004", b"-0100", b"-0400", b"-2006", b"-9999",
-    b"+10000", b"-10000", b"+10001", b"-10001", b"+12000", b"-12000", b"+12001", b"-12001", b"+99999", b"-99999",
-    b"+02006", b"-02006", b"+00000", b"-00000", b"+2006", b"+0000", b"20060", b"02006", b"206", b"+206", b"-206",
-    b"6", b"-", b"+", b"--2006", b"+-2006", b"+100000", b"-100000", b"+012006", b" 2006", b"2006 ",
-)
-
-# one year of every shape, and the ends of each Year setting
-YEARS_FOR_PAIRS = (
-    b"0000", b"1581", b"1582", b"9999", b"-0000", b"-0001", b"-9999", b"+10000", b"-10000", b"+99999", b"-99999",
-    b"+02006", b"+2006", b"20060", b"206",
-)
-
-# years on both sides of each window's ends, and of each Year setting's
-YEARS_AT_WINDOWS = (
-    b"1999", b"2000", b"2005", b"2010", b"2011", b"1581", b"1582", b"9999", b"+10000", b"-10000", b"-9999", b"-0001",
-    b"0000", b"0001", b"-12001", b"-12000", b"+12000", b"+12001", b"+99999", b"-99999",
-)
-
-# what may stand after the year of each form, in any year
-DATE_TAILS = {b"Y": b"", b"YM": b"-06", b"YMD": b"-06-13", b"YD": b"-164", b"YW": b"-W24", b"YWD": b"-W24-2"}
 
 # differences ahead and behind, at their ends and inside, for second 60
 DIFFERENCES_AT_SECOND_60 = (
@@ -86,20 +53,9 @@ def line(limits, type_text, text):
     return limits + b";" + type_text + b";" + text
 
 
-def date_type(date, *years):
-    """"one settings list, or two", of a date."""
-    return b"|".join(b"Basic=Date Date=%s Year=%s" % (date, year) for year in years)
-
-
 def time_type(time, zone):
     """One settings list of a time."""
     return b"Basic=Time Time=%s Local-or-UTC=%s" % (time, zone)
-
-
-def date_time_type(date, years, time, zone):
-    """"one settings list, or two", of a date with a time."""
-    settings = b"Basic=Date-Time Date=%s Year=%s Time=%s Local-or-UTC=%s"
-    return b"|".join(settings % (date, year, time, zone) for year in years)
 
 
 def time_text(time, fields, fraction=b"", zone=b"", mark=b"."):
@@ -163,16 +119,34 @@ def some_date_times():
             yield (date, years) + times[(k + 19 * step) % len(times)]
 
 
+def date_time_lines(date, years, time, zone):
+    """Two date-times of a type: "A date-time has `T` between"."""
+    type_text = date_time_type(date, years, time, zone)
+    for setting, fields, fraction, mark in (
+        (years[0], (b"15", b"27", b"46"), b"502", b","),
+        (years[-1], (b"24", b"00", b"00"), b"0", b"."),
+    ):
+        date_text = A_YEAR[setting] + DATE_TAILS[date]
+        yield line(b"0", type_text, date_text + b"T" + time_text(time, fields, fraction, zone_texts(zone)[-1], mark))
+
+
 def good_date_times():
-    """Many date-times: "A date-time has `T` between"."""
-    for date, years, time, zone in some_date_times():
-        type_text = date_time_type(date, years, time, zone)
-        for setting, fields, fraction, mark in (
-            (years[0], (b"15", b"27", b"46"), b"502", b","),
-            (years[-1], (b"24", b"00", b"00"), b"0", b"."),
-        ):
-            date_text = A_YEAR[setting] + DATE_TAILS[date]
-            yield line(b"0", type_text, date_text + b"T" + time_text(time, fields, fraction, zone_texts(zone)[-1], mark))
+    """Many date-times."""
+    for some in some_date_times():
+        yield from date_time_lines(*some)
+
+
+def some_large_date_times():
+    """Each date form and choice of larger years with one of the times."""
+    times = list(itertools.product(TIMES, ZONES))
+    for k, (date, years) in enumerate(itertools.product(DATES, LARGE_CHOICES)):
+        yield (date, years) + times[31 * k % len(times)]
+
+
+def large_date_times():
+    """Date-times with years of up to nine digits."""
+    for some in some_large_date_times():
+        yield from date_time_lines(*some)
 
 
 def checked_values():
@@ -202,7 +176,7 @@ def date_boundaries():
         (b"Negative", b"-0400"), (b"Negative", b"-9999"), (b"L5", b"+10000"), (b"L5", b"+99996"), (b"L5", b"-10000"),
         (b"L5", b"-99999"), (b"Basic", b"1500"), (b"Negative", b"2006"),
     )
-    for setting, year in years:
+    for setting, year in years + year_texts.YEARS_OF_BOUNDARIES:
         for month in (b"00", b"01", b"12", b"13", b"99"):
             yield line(b"0", date_type(b"YM", setting), year + b"-" + month)
         for day in (b"-00-01", b"-13-01", b"-02-00", b"-02-01", b"-02-28", b"-02-29", b"-02-30", b"-12-31", b"-12-32"):
@@ -371,6 +345,13 @@ def years_in_windows():
         yield line(limits, b"DATE", year + b"-02-28")
 
 
+def large_years_in_windows():
+    """Years of up to nine digits on both sides of each window's ends, and at their own."""
+    choices = ((b"L9",), (b"L6", b"Negative"), SIGNED_YEARS)
+    for limits, years, year in itertools.product(WINDOWS, choices, year_texts.LARGE_YEARS_AT_WINDOWS):
+        yield line(limits, date_type(b"Y", *years), year)
+
+
 def forms():
     """A type and a text of it, for many forms."""
     for date in DATES:
@@ -384,6 +365,9 @@ def forms():
         yield date_time_type(date, (b"Basic",), time, zone), text
     yield date_type(b"Y", b"L5"), b"+12006"
     yield date_type(b"YM", b"Negative", b"L5"), b"-2006-12"
+    yield date_type(b"Y", b"L9"), b"+123456789"
+    yield date_type(b"YM", b"L6", b"Negative"), b"-123456-12"
+    yield date_time_type(b"YMD", (b"L8",), b"HMS", b"Z"), b"+12345678-12-13T15:12:13Z"
 
 
 def cross_table():
@@ -433,6 +417,7 @@ def changed_texts():
         (time_type(b"HMSF3", b"L"), b"12:05:59.102"),
         (date_time_type(b"YM", (b"Basic",), b"HF1", ld), b"2006-12T05.9-15:59"),
         (date_time_type(b"YD", (b"L5",), b"HMF1", z), b"-10000-366T24:00.0Z"),
+        (date_type(b"YW", *SIGNED_YEARS), b"-999999999-W01"),
     )
     for type_text, text in texts:
         for changed in itertools.chain([text], deletions(text), replacements(text, TEXT_OCTETS)):
@@ -464,9 +449,19 @@ def changed_types():
             yield line(b"0", changed, text)
 
 
+def changed_years():
+    """A Year setting with one octet less, another or more, in the first of two lists and in the last of three."""
+    others = [bytes([octet]) for octet in b"05679=| L"]
+    changed = itertools.chain(deletions(b"Year=L9"), replacements(b"Year=L9", others), insertions(b"Year=L9", others))
+    for k, pair in enumerate(changed):
+        lists = [b"Basic=Date Date=Y " + pair, date_type(b"Y", b"L6")]
+        yield line(b"0", b"|".join(lists if k % 2 else [lists[1], date_type(b"Y", b"L7"), lists[0]]), b"+123456789")
+
+
 def every_octet():
-    """Every octet but the newline in the place of a digit, of a separator and of the space, and as LIMITS."""
+    """Every octet but the newline in the place of a digit, of a separator and of the space, after L, and as LIMITS."""
     for octet in (bytes([number]) for number in range(256) if number != 0x0A):
+        yield line(b"0", b"Basic=Date Date=Y Year=L" + octet, b"+123456")
         yield line(b"0", date_type(b"Y", b"Basic"), b"200" + octet)
         yield line(b"0", time_type(b"HF1", b"L"), b"15" + octet + b"5")
         yield line(b"0", b"Basic=Date" + octet + b"Date=Y Year=Basic", b"2006")
@@ -484,6 +479,8 @@ def long_texts():
         yield line(b"0", b"DATE", text)
     for text in (b"+" + b"9" * 4999, b"-" + b"0" * 4000, b"+12006" + b"\x00" * 256, b"-" * 3000, b"+1" * 1500):
         yield line(b"0", date_type(b"Y", b"L5"), text)
+    for text in (b"+" + b"9" * 4800, b"-1" + b"0" * 1000, b"+123456789" + b"0" * 500, b"+123456789" * 300, b"-0" * 900):
+        yield line(b"0", date_type(b"Y", *SIGNED_YEARS), text)
     for text in (b"15:27:46." + b"5" * 4990, b"15:27:46.123456789+01:" + b"00" * 1000, b"15:" * 1000, b"Z" * 2000):
         yield line(b"0", time_type(b"HMSF9", b"LD"), text)
     yield line(b"0", b"DATE-TIME", b"2006-06-13" + b"T" * 1000 + b"15:27:46")
@@ -494,6 +491,7 @@ def long_types():
     """Type texts of length 0 and of 1,000 to 5,000 octets."""
     y = date_type(b"Y", b"Basic")
     both = date_type(b"Y", b"Basic", b"Proleptic")
+    six = date_time_type(b"YWD", SIGNED_YEARS, b"HMSF9", b"LD")
     types = (
         b"", b"|" * 1000, b"|" * 5000, b" " * 5000, b"=" * 3000, b"\x00" * 1000, b"\xff" * 1000, b"DATE" * 1000,
         b"DATE|" * 500, b"Basic=Date " * 400, b"Basic=Date" + b" Basic=Date" * 300, y + b" Year=Basic" * 300,
@@ -504,6 +502,8 @@ def long_types():
         b"Basic=Time Time=HMSF" + b"3" * 3000 + b" Local-or-UTC=L", b"Basic=Time Time=H Local-or-UTC=" + b"L" * 1000,
         b"Basic=Time Time=HF" + b"0" * 1000 + b"1 Local-or-UTC=L", b"Basic" + b"=" * 1000 + b"Date Date=Y Year=Basic",
         y + b" Midnight=Start" * 200, b"TIME-OF-DAY" + b"\x00" * 1000, b"DATE-TIME" + b" " * 1000,
+        six, six + b"|", b"|".join([six] * 10), six + b" " * 1000, b"Basic=Date Date=Y Year=L" + b"6" * 1000,
+        date_type(b"Y", *SIGNED_YEARS, *(b"L%d" % digits for digits in range(10, 100))), b"|".join([b"DATE"] * 7),
     )
     for limits, type_text in itertools.product((b"0", b"4"), types):
         yield line(limits, type_text, b"2006")
@@ -520,6 +520,7 @@ def limited_types():
         ymd + b"|" + hms, hms + b"|" + ymd, ymd + b"|" + both, both + b"|" + ymd, hms + b"|" + both, both + b"|" + hms,
         hms + b"|" + hmsz, ymd + b"|" + date_type(b"YMD", b"L5"), both + b"|" + date_time_type(b"Y", (b"L5",), b"H", b"L"),
         ymd + b"|" + ymd, hms + b"|" + hms, both + b"|" + both, b"DATE|" + ymd, b"", b"date",
+        *year_texts.limited_lists(),
     )
 
 
@@ -568,7 +569,8 @@ def unknown_settings():
     """Settings that are unknown, or that X.680 has and the base hasn't."""
     for date in (b"C", b"D", b"M", b"W", b"YY", b"MD", b"WD", b"YDM", b"YMDD", b"YWM", b"ymd", b"Date", b"YMD,", b""):
         yield b"Basic=Date Date=%s Year=Basic" % date
-    for year in (b"L", b"L0", b"L4", b"L6", b"L7", b"L10", b"L05", b"L55", b"l5", b"N5", b"Large", b"basic", b"Gregorian",
+    for year in (b"L", b"L0", b"L4", b"L10", b"L05", b"L06", b"L55", b"L66", b"L99", b"l5", b"l6", b"N5", b"L6 ", b" L6", b"6",
+                 b"L 6", b"L+6", b"L-6", b"L6.", b"L6L7", b"L6,L7", b"L\xb6", b"Large", b"basic", b"Gregorian",
                  b"Basic,Proleptic", b"Basic|Proleptic", b"Basic/Proleptic", b"negative", b"Positive", b"2006", b""):
         yield b"Basic=Date Date=Y Year=%s" % year
     for time in (b"HF", b"HF0", b"HF10", b"HF01", b"HF1 ", b"HMF", b"HMF0", b"HMF10", b"HMSF", b"HMSF0", b"HMSF00",
@@ -633,7 +635,7 @@ def misplaced_spaces():
 
 
 def wrong_bars():
-    """Empty lists, more than two lists, equal lists in other order."""
+    """Empty lists, three and more of two rows, equal lists in other order."""
     y, p, n, l5 = (date_type(b"Y", year) for year in YEARS)
     yield from (b"|", b"||", b"|||", y + b"|", b"|" + y, y + b"||", y + b"||" + p, b"|" + y + b"|" + p, y + b"|" + p + b"|")
     yield from (y + b"|" + p + b"|" + n, y + b"|" + p + b"|" + l5, y + b"|" + y + b"|" + y, y + b"|" + p + b"|" + y)
@@ -649,7 +651,7 @@ def ones_before_twos():
     """Lists of other rows of which one or both are refused by themselves: "the lowest number is given"."""
     y, hms = date_type(b"Y", b"Basic"), time_type(b"HMS", b"L")
     refused = (
-        b"", b" ", b"Basic=Date Date=YM", b"Date=YM Year=L5", b"Basic=Date Date=YM Year=L6", b"Basic=Date Date=C Year=Basic",
+        b"", b" ", b"Basic=Date Date=YM", b"Date=YM Year=L5", b"Basic=Date Date=YM Year=L10", b"Basic=Date Date=C Year=Basic",
         b"Basic=Time Time=HMS", b"Basic=Time Time=HF0 Local-or-UTC=L", b"Basic=Interval Interval-type=D", *NAMES,
         b"Basic=Date Date=YM Year=L5 Year=L5", b"Basic=Date Date=YM Year=L5 ", b" Basic=Date Date=YM Year=L5", b"Basic",
         b"Basic=Time Time=HMS Local-or-UTC=L Date=Y Year=L5", b"basic=Date Date=YM Year=L5", b"Basic=Date  Date=YM Year=L5",
@@ -682,6 +684,18 @@ def pairs_of_lists():
         yield line(b"0", first + b"|" + second, b"1066")
     for k, (first, second) in enumerate(itertools.product(lists[3:14], lists[3:14])):
         yield line((b"1", b"8", b"9")[k % 3], first + b"|" + second, b"+12006")
+
+
+def lists_of_years():
+    """Many lists that differ only in Year, and others: "1 for more than six lists or a Year twice in otherwise equal lists, 2
+    for any other difference"."""
+    yield from (line(b"0", type_text, text) for type_text, text in year_texts.year_lists())
+    for k, type_text in enumerate(year_texts.other_lists()):
+        yield line(b"0", type_text, (b"+123456", b"", b"2006", b"15:27:46")[k % 4])
+    first = (b"Year=L8", b"Basic=Date", b"Date=YMD")
+    for order in itertools.permutations((b"Basic=Date", b"Date=YMD", b"Year=L6")):
+        for lists in ((order, first), (first, order, (b"Date=YMD", b"Year=L7", b"Basic=Date")), (order, first, order[::-1])):
+            yield line(b"0", b"|".join(map(b" ".join, lists)), b"+123456-06-13")
 
 
 def all_orders():
@@ -737,6 +751,18 @@ def other_lines():
 def last_second():
     """A second 60 under the last limits of the menu."""
     yield line(b"9", b"DATE-TIME", b"2009-12-31T23:59:60")
+
+
+def rows_of_years():
+    """Lines that compare types with Year settings of one row and of two, alone and in several lists, also under limits."""
+    choices = [(year,) for year in ALL_YEARS] + [YEAR_CHOICES[4], *LARGE_CHOICES[4:]]
+    for first, second in itertools.product(choices, choices):
+        yield line(b"=", date_type(b"YMD", *first), date_type(b"YMD", *second))
+    for first, second in itertools.product(LARGE_CHOICES[3:8], choices[::2]):
+        yield line(b"=", date_time_type(b"YD", first, b"HF3", b"Z"), date_time_type(b"YD", second, b"HF8", b"Z"))
+    six, seven = date_type(b"YMD", *SIGNED_YEARS), date_type(b"YMD", *SIGNED_YEARS, b"Basic")
+    for limits, other in itertools.product((b"=", b"=01", b"=35", b"=70", b"=08", b"=80", b"=99"), (b"DATE", seven, b"", six)):
+        yield from (line(limits, six, other), line(limits, other, date_type(b"YMD", b"L9", b"L6")))
 
 
 def limited_rows():
@@ -827,6 +853,12 @@ def rows_of_durations():
         yield from (line(limits, duration_texts.NAME, LIST), line(limits, LIST, b"DATE-TIME"))
 
 
+def years_of_nine_digits():
+    """Years of six to nine digits, their ends and their shapes, alone and before other fields."""
+    for section in (year_texts.large_dates, year_texts.year_ends, year_texts.year_shapes, year_texts.leap_days_and_weeks):
+        yield from (line(b"0", type_text, text) for type_text, text in section())
+
+
 def last_line():
     """The line without a newline at its end."""
     first, second = (date_time_type(b"YM", years, b"HF9", b"Z") for years in ((b"Basic",), (b"Proleptic",)))
@@ -838,7 +870,8 @@ SECTIONS = (
     time_boundaries, fractions_at_hour_24, differences, second_60, year_shapes, years_in_windows, cross_table,
     changed_texts, changed_types, every_octet, long_texts, long_types, limits_and_places, refused_types, pairs_of_lists,
     all_orders, rows, other_lines, last_second, limited_rows, refused_rows, fields_of_rows, durations,
-    changed_durations, types_of_durations, durations_and_points, limits_on_durations, rows_of_durations, last_line,
+    changed_durations, types_of_durations, durations_and_points, limits_on_durations, rows_of_durations,
+    years_of_nine_digits, large_date_times, large_years_in_windows, changed_years, lists_of_years, rows_of_years, last_line,
 )
 
 

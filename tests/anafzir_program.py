@@ -40,7 +40,7 @@ LONGEST_RUN = 60
 
 SENTENCES = {
     1: "The type cannot be read, or a limit has no place in it.",
-    2: "The type's two lists do not belong together.",
+    2: "The type's lists do not belong together.",
     3: "The input does not look like a value of the type.",
     4: "There is no such date, time or difference.",
     5: "The value exists, and the type does not have it.",
@@ -329,11 +329,13 @@ def check_order():
 
 def check_years():
     """Each way to give years, against years around them; one alone leaves the other side open."""
-    years = Question(b"der", b"Basic=Date Date=Y Year=Negative|Basic=Date Date=Y Year=L5", NO_LIMITS)
-    texts = [b"-99999", b"-10000", b"-0129", b"-0128", b"-0127", b"-0001", b"+10000", b"+99999", b"2006"]
+    lists = b"Basic=Date Date=Y Year=Negative|Basic=Date Date=Y Year=L9|Basic=Date Date=Y Year=L5"
+    years = Question(b"der", lists, NO_LIMITS)
+    texts = [b"-99999", b"-10000", b"-0129", b"-0128", b"-0127", b"-0001", b"+10000", b"+99999", b"-999999999", b"-999999998",
+             b"+100000000", b"+999999999", b"+100000", b"2006"]
     lowest, highest = -(1 << 31), (1 << 31) - 1
     values = {b"-128": -128, b"-0128": -128, b"+10000": 10000, b"0": 0, b"-0": 0, b"+0": 0, b"%d" % lowest: lowest,
-              b"+%d" % highest: highest, b"-00000000000000000000127": -127, b"-99999": -99999}
+              b"+%d" % highest: highest, b"-00000000000000000000127": -127, b"-99999": -99999, b"-999999998": -999999998, b"+999999999": 999999999}
     for (low, a), (high, b) in itertools.product([(None, lowest), *values.items()], [(None, highest), *values.items()]):
         words = ([b"--from", low] if low else []) + ([b"--to=" + high] if high else [])
         limits = Limits((a, b), False) if words else NO_LIMITS

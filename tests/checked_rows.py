@@ -37,8 +37,8 @@ LIST = re.compile(r'^ +list "([^"]*)" (\d+) (\d+) (\d+) (\d+) (\d+) (\d+) ∷', 
 OCTETS = re.compile(r'^ +octets "([^"]*)" \(((?:\d+ ∷ )+)\[\]\) refl ∷', re.M)
 
 TYPES = ROOT / "crates/type_texts/proofs/Laws/CheckedTypes.antt"
-TYPE = re.compile(r'^ +text "([^"]*)" (\w+) (\d) ∷', re.M)
-PAIR = re.compile(r'^ +pair "([^"]*)" "([^"]*)" (true|false) ∷', re.M)
+TYPE = re.compile(r'^ +text "([^"]*)"\s+(\w+) (\d) ∷', re.M)
+PAIR = re.compile(r'^ +pair "([^"]*)"\s+"([^"]*)" (true|false) ∷', re.M)
 LIMITED = re.compile(r'^ +limited "([^"]*)" (\w+) "([^"]*)" (\w+) (true|false) ∷', re.M)
 COUNT = re.compile(r'^ +count "([^"]*)" (\d) ∷', re.M)
 LIMITS = {
@@ -55,9 +55,8 @@ TEXTS = ROOT / "crates/exchanges/proofs/Laws/CheckedTexts.antt"
 TEXT = re.compile(rf'^ +row "([^"]*)" {QUOTED} (\d) "([^"]*)" ∷', re.M)
 UNDER = re.compile(r'^ +under "([^"]*)" (\w+) "([^"]*)" (\d) "([^"]*)" ∷', re.M)
 
-SETTINGS = ROOT / "crates/held_values/proofs/Laws/Holding.antt"
-SETTING = re.compile(r"^ +year (\w+) \((\w+ \d+)\) (true|false) ∷", re.M)
-SETTING_NAMES = {"basic": "Basic", "proleptic": "Proleptic", "negative": "Negative", "five": "L5"}
+SETTINGS = ROOT / "crates/types/proofs/Laws/YearRanges.antt"
+SETTING = re.compile(r"^ +year YearSetting\.(\w+) \((\w+ \d+)\) (true|false) ∷", re.M)
 
 A_DATE = r"\(Date\.(\w+) \(yearAt \((\w+ \d+)\)\)((?: \d+)*)\)"
 A_TIME = r"\(Clock\.(\w+)((?: \d+)+)\) (\d+) (\d+) \(?(Zone\.\w+|(?:ahead|behind) \d+ \d+)\)?"
@@ -83,10 +82,11 @@ BOTH = re.compile(rf'^ +both YearRow\.(\w+) {A_DATE} {A_TIME} "(\w+)" (\d+) ∷'
 TYPED = re.compile(rf'^ +typed(?:Date|Both) (\w+) {A_DATE}(?: {A_TIME})? "(\w+)" (\d+) ∷', re.M)
 NO_DATE = re.compile(r'^ +noDate YearRow\.(\w+) DateForm\.(\w+) "(\w*)" ∷', re.M)
 NO_TIME = re.compile(r'^ +noTime ClockForm\.(\w+) (\d+) ZoneForm\.(\w+) "(\w*)" ∷', re.M)
-YEAR_ROWS = {"Year": frozenset({"Basic", "Proleptic"}), "AnyYear": frozenset({"Negative", "L5"})}
+YEAR_ROWS = {"Year": frozenset({"Basic", "Proleptic"}), "AnyYear": frozenset({"Negative", "L5", "L6", "L7", "L8", "L9"})}
 YEAR_SETTINGS = {
     "basic": frozenset({"Basic"}), "proleptic": frozenset({"Proleptic"}), "plain": YEAR_ROWS["Year"],
-    "negative": frozenset({"Negative"}), "five": frozenset({"L5"}), "signed": YEAR_ROWS["AnyYear"],
+    "negative": frozenset({"Negative"}), "five": frozenset({"L5"}), "six": frozenset({"L6"}), "seven": frozenset({"L7"}),
+    "eight": frozenset({"L8"}), "nine": frozenset({"L9"}), "signed": YEAR_ROWS["AnyYear"],
 }
 
 DURATIONS = ROOT / "crates/durations/proofs/Laws/Checked.antt"
@@ -111,7 +111,7 @@ VALUE = re.compile(r'^ +value "([^"]*)" "([^"]*)" (\d) "([^"]*)" (\d+) "([^"]*)"
 CODED = re.compile(r'^ +coded "([^"]*)" "([^"]*)" "([^"]*)" (\d+) ∷', re.M)
 CODED_UNDER = re.compile(r'^ +limited (\w+) "([^"]*)" "([^"]*)" (\d) "([^"]*)" (\d+) ∷', re.M)
 TAGGED = re.compile(r'^ +element "([^"]*)" "([^"]*)" (\d) "([^"]*)" "([^"]*)" ∷', re.M)
-CAUSE = re.compile(r'^ +(per|der)Cause "([^"]*)" (\w+) "([^"]*)" (\d+) (\d) ∷', re.M)
+CAUSE = re.compile(r'^ +(per|der)Cause "([^"]*)"\s+(\w+) "([^"]*)" (\d+) (\d) ∷', re.M)
 CODING_LIMITS = {
     "noLimits": settings.NO_LIMITS,
     "from2000": settings.Limits((2000, 2010), False),
@@ -124,8 +124,9 @@ ROOM = 128
 
 DURATION_CODINGS = ROOT / "crates/exchanges/proofs/Laws/CheckedDurations.antt"
 LEAP_CODINGS = ROOT / "crates/exchanges/proofs/Laws/CheckedLeaps.antt"
+YEAR_CODINGS = ROOT / "crates/exchanges/proofs/Laws/CheckedYears.antt"
 SPELLED_VALUE = re.compile(r'^ +value "([^"]*)"\s+"([^"]*)"\s+"([^"]*)"\s+"(\w+)" (\d+)\s+"(\w+)" ∷', re.M)
-REFUSES = re.compile(rf'^ +refuses "([^"]*)" (\w+) {QUOTED} (\d) ∷', re.M)
+REFUSES = re.compile(rf'^ +refuses "([^"]*)"\s+(\w+) {QUOTED} (\d) ∷', re.M)
 READ_UNDER = re.compile(r'^ +(per|der)Read "([^"]*)" "([^"]*)" "([^"]*)" (\d) "([^"]*)" (\d+) ∷', re.M)
 
 LINES = ROOT / "crates/line_replies/proofs/Laws/Checked.antt"
@@ -259,7 +260,7 @@ def check_settings():
     """Which years are of each Year setting."""
     (found,) = rows(SETTINGS, SETTING)
     for name, year, said in found:
-        expect(SETTINGS, f"{name} {year}", said, truth(texts.year_setting(integer(year)) == SETTING_NAMES[name]))
+        expect(SETTINGS, f"{name} {year}", said, truth(texts.year_setting(integer(year)) == name))
 
 
 def row_time(fields, digits, fraction, zone):
@@ -456,9 +457,9 @@ def check_duration_codings():
         expect(DURATION_CODINGS, f"{work} {writer} {text} {reader}", said, (sent, *found))
 
 
-def check_leap_codings():
-    """The tables of second 60."""
-    check_tables(LEAP_CODINGS, *rows(LEAP_CODINGS, SPELLED_VALUE, REFUSES, CAUSE))
+def check_point_codings(table):
+    """The tables of second 60, and of years of up to nine digits."""
+    check_tables(table, *rows(table, SPELLED_VALUE, REFUSES, CAUSE))
 
 
 def check_lines():
@@ -483,5 +484,6 @@ if __name__ == "__main__":
     check_elements()
     check_codings()
     check_duration_codings()
-    check_leap_codings()
+    check_point_codings(LEAP_CODINGS)
+    check_point_codings(YEAR_CODINGS)
     check_lines()

@@ -41,7 +41,7 @@ import convert_lines  # noqa: E402
 import der  # noqa: E402
 import per  # noqa: E402
 import value_lines  # noqa: E402
-from checks import HMS_LD, HMS_Z, LONGEST_DURATION, ROOM, Y_BASIC, Y_L5, Y_PROLEPTIC, agree  # noqa: E402
+from checks import HMS_LD, HMS_Z, LONGEST_DURATION, ROOM, SIX_LISTS, Y_BASIC, Y_L5, Y_L6, Y_L9, Y_PROLEPTIC, agree  # noqa: E402
 from settings import NO_LIMITS, Limits  # noqa: E402
 
 HEADER = (ROOT / "include/anafzir.h").read_text("utf-8")
@@ -314,13 +314,13 @@ def check_years():
 
 LIMITED = (
     (b"DATE", b"2006-06-13"), (b"DATE-TIME", b"2006-06-13T24:00:00"), (b"TIME-OF-DAY", b"24:00:00"), (b"DURATION", b"P1D"),
-    (Y_L5, b"-12000"), (Y_L5, b"-12001"), (Y_PROLEPTIC, b"0000"),
+    (Y_L5, b"-12000"), (Y_L5, b"-12001"), (Y_PROLEPTIC, b"0000"), (Y_L9, b"-999999999"), (SIX_LISTS, b"+999999999"),
 )
 
 
 def check_limits():
     """Limits of one side and of both, also at the ends of 32 bits; the reference's windows have both sides."""
-    years = (None, -2 ** 31, -12000, -1, 0, 2005, 2006, 2007, 2 ** 31 - 1)
+    years = (None, -2 ** 31, -999999999, -12000, -1, 0, 2005, 2006, 2007, 999999999, 2 ** 31 - 1)
     for lowest, highest, no_hour_24 in itertools.product(years, years, (False, True)):
         ends = (-2 ** 31 if lowest is None else lowest, 2 ** 31 - 1 if highest is None else highest)
         limits = Limits(None if lowest is highest is None else ends, no_hour_24)
@@ -352,6 +352,10 @@ def check_errors():
         check_error(getattr(anafzir, ERRORS[number - 1])(), *says[number])
     for number, function, words in (
         (1, anafzir.encode, ("Basic=Date", "2006")), (2, anafzir.encode, (Y_BASIC + b"|" + Y_L5, "2006", "der")),
+        (1, anafzir.encode, (Y_BASIC + b"|" + Y_L6 + b"|" + Y_L6, "+123456")), (1, anafzir.encode, (SIX_LISTS + b"|" + Y_BASIC, "2006")),
+        (2, anafzir.encode, (Y_L6 + b"|" + Y_L9 + b"|" + Y_BASIC, "+123456")),
+        (3, anafzir.encode, (Y_L6, "+011985")), (5, anafzir.encode, (Y_L5, "+123456", "der")),
+        (5, anafzir.decode, (Y_L5, b"\x03\x01\xE2\x40")), (6, anafzir.decode, (SIX_LISTS, b"\x04\x00\x01\xE2\x40")),
         (3, anafzir.DATE.encode, ("13.6.2006",)), (4, anafzir.DATE.encode_with_bits, ("2006-02-29",)),
         (4, anafzir.encode, (HMS_Z, "12:34:60Z", "der")), (4, anafzir.decode, (HMS_Z, b"\x64\x5E\x00")),
         (5, anafzir.decode, (anafzir.Type("DATE", highest=2005), b"\x05\x58")),
@@ -575,6 +579,7 @@ def check_example():
         [], [b"DATE"], [b"", b""], [b"DATE|DATE", b"2006-06-13"], [b"DATE\xff", b"2006-06-13"], [b"DURATION", b"P0Y0M1D", b"P1Y6M"],
         [b"Basic=Time Time=HMSF3 Local-or-UTC=LD", b"15:27:46,500+01:00", b"24:00:01.000+00"], [b"DATE", b"\xff", b"", b"\xc3\xa9"],
         [HMS_LD, b"05:29:60+05:30", b"05:30:60+05:30", b"18:59:60-05"],
+        [SIX_LISTS, b"-0044", b"+123456789", b"-999999999", b"+1234567890", b"2006"],
     ):
         type_text, *texts = words or [b"DURATION", b"P0Y0M1D"]
         environment = {**os.environ, "PYTHONPATH": str(FOLDER), "PYTHONUTF8": "1"}

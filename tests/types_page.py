@@ -20,7 +20,8 @@ sys.path.insert(0, str(ROOT / "reference"))
 import der  # noqa: E402
 import per  # noqa: E402
 from settings import NAMES, NO_LIMITS, SETTINGS, Limits  # noqa: E402
-from texts import YEAR_RANGES, year_text  # noqa: E402
+from texts import year_text  # noqa: E402
+from years import YEAR_RANGES  # noqa: E402
 
 PAGE = ROOT / "docs/TYPES.md"
 HEADER = ROOT / "include/anafzir.h"
@@ -73,6 +74,10 @@ YEARS = (
     Row("Year=Proleptic", "", "YYYY", "1066"),
     Row("Year=Negative", "", "-YYYY", "-0044"),
     Row("Year=L5", "", "±YYYYY", "+12006"),
+    Row("Year=L6", "", "±YYYYYY", "-129000"),
+    Row("Year=L7", "", "±YYYYYYY", "-2580000"),
+    Row("Year=L8", "", "±YYYYYYYY", "-66000000"),
+    Row("Year=L9", "", "±YYYYYYYYY", "-251902000"),
 )
 
 TIMES = (
@@ -112,22 +117,30 @@ def time_type(time, zone):
     return f"Basic=Time Time={time} Local-or-UTC={zone}"
 
 
-Y, PROLEPTIC, NEGATIVE, L5 = (date_type("Y", year) for year in ("Basic", "Proleptic", "Negative", "L5"))
-PLAIN_YEARS, SIGNED_YEARS = f"{Y}|{PROLEPTIC}", f"{NEGATIVE}|{L5}"
+Y, PROLEPTIC, NEGATIVE, L5, L6, L7, L8, L9 = (date_type("Y", row.setting.partition("=")[2]) for row in YEARS)
+PLAIN_YEARS, THREE_YEARS = f"{Y}|{PROLEPTIC}", f"{L9}|{NEGATIVE}|{L5}"
+SIX_YEARS = "|".join((NEGATIVE, L5, L6, L7, L8, L9))
 DURATION_LIST = "Basic=Interval Interval-type=D"
 
-# types of two lists, with a text that each list holds
-PAIRS = ((PLAIN_YEARS, "`Basic` and `Proleptic`", ("2006", "1066")), (SIGNED_YEARS, "`Negative` and `L5`", ("-0044", "+12006")))
+# types of several lists, with a text that each list holds
+TOGETHER = (
+    (PLAIN_YEARS, "`Basic` and `Proleptic`", ("2006", "1066")),
+    (THREE_YEARS, "`L9`, `Negative` and `L5`", ("-251902000", "-0044", "+12006")),
+    (SIX_YEARS, "all with a sign", ("-0044", "+12006", "-129000", "-2580000", "-66000000", "-251902000")),
+)
 
 # types with a bar that are refused
 BARRED = (
     Case("2006", f"{Y}|{date_type('YM', 'Basic')}", "they differ in Date"),
     Case("15", f"{time_type('H', 'L')}|{time_type('H', 'Z')}", "they differ in Local-or-UTC"),
     Case("2006", f"{Y}|{L5}", "Years of two rows"),
+    Case("-129000", f"{L6}|{L7}|{PROLEPTIC}", "Years of two rows"),
     Case("2006", f"{Y}|{DURATION_LIST}", "a date beside a duration"),
     Case("2006", f"{Y}|{Y}", "two equal lists"),
+    Case("-129000", f"{Y}|{L6}|{L6}", "two equal lists beside another row"),
+    Case("-129000", f"{L6}|{date_type('Y', 'L10')}", "a word that is no Year"),
     Case("2006", f"{Y} | {PROLEPTIC}", "a space beside the bar"),
-    Case("2006", f"{Y}|{PROLEPTIC}|{NEGATIVE}", "three lists"),
+    Case("-129000", f"{SIX_YEARS}|{Y}", "seven lists"),
     Case("2006-06-13", f"DATE|{date_type('YMD', 'Proleptic')}", "a name beside the bar"),
 )
 
@@ -137,6 +150,7 @@ LIMITED = (
     (WINDOW, Case("2011-01-01", "DATE", "outside")),
     (TURNED, Case("2006-06-13", "DATE", "no year is left")),
     (Limits((-44, -1), False), Case("-0044", NEGATIVE, "-44 is the year -0044, 0 is 0000")),
+    (Limits((-298900000, -251902000), False), Case("-251902000", L9, "all years of nine digits are of 32 bits")),
     (WINDOW, Case("15:27:46", "TIME-OF-DAY", "no date: no place")),
     (NO_24, Case("24:00:00", "TIME-OF-DAY", "hour 24")),
     (NO_24, Case("23:59:60", "TIME-OF-DAY", "another hour")),
@@ -148,9 +162,10 @@ LIMITED = (
 
 # texts by their subject, with the type that all of a subject stand under
 TEXTS = (
-    ("Years: four digits; `-` and four digits; or a sign and five digits, the first not 0.", SIGNED_YEARS, (
-        ("-0044", "`Year=Negative`"), ("+12006", "`Year=L5`"), ("-12006", "`Year=L5`"), ("2006", "of another Year setting"),
-        ("+2006", "a sign and four digits"), ("12006", "five digits without a sign"), ("+02006", "a leading 0"),
+    ("Years: four digits; `-` and four digits; or a sign and five to nine digits, the first not 0.", THREE_YEARS, (
+        ("-0044", "`Year=Negative`"), ("+12006", "`Year=L5`"), ("-12006", "`Year=L5`"), ("-251902000", "`Year=L9`"),
+        ("2006", "of another Year setting"), ("+123456", "of another one, `Year=L6`"), ("+2006", "a sign and four digits"),
+        ("12006", "five digits without a sign"), ("+011985", "a leading 0"), ("+1234567890", "ten digits"),
         ("-0000", "the year 0 is 0000"),
     )),
     ("Dates: every field with all its digits; the Gregorian calendar, for every year.", "DATE", (
@@ -206,8 +221,9 @@ ABSENT = (
     ("", "DATE-TIME", "2006-06-13t15:27:46"),
     ("quotation marks", "DATE", '"2006-06-13"'),
     ("centuries", "Basic=Date Date=C Year=Basic", None),
-    ("years of more than five digits", "Basic=Date Date=Y Year=L6", None),
-    ("", L5, "+123456"),
+    ("years of more than nine digits", date_type("Y", "L10"), None),
+    ("", L9, "+1234567890"),
+    ("years with a sign and four digits, but for Negative", date_type("Y", "L4"), None),
     ("fractions of no digit or of ten", time_type("HMSF0", "L"), None),
     ("", time_type("HMSF10", "L"), None),
     ("Midnight, but there is a limit", f"{time_type('HMS', 'L')} Midnight=Start", None),
@@ -234,12 +250,16 @@ OCTETS = (
     ("unper", "DATE", "047A", "2006-02-30"),
     ("unper", time_type("HMS", "Z"), "645E00", "`12:34:60Z`: second 60 in another minute"),
     ("unper", date_type("YMD", "Proleptic"), "0558", "2006-06-13: of another Year setting"),
+    ("unper", L5, "0301E240", "+123456: of another Year setting"),
+    ("unper", L9, "043B9ACA00", "1,000,000,000: of no Year setting"),
     ("unper", "DATE", "0559", "the filling is not zero"),
     ("unper", "DATE", "055800", "an octet is left over"),
     ("unper", Y, "C081F680", "2010, for which there are fewer bits"),
+    ("unper", L6, "040001E240", "+123456, for which there are fewer octets"),
     ("under", "DATE", "1F20083230303630363133", "the tag of `TIME-OF-DAY`"),
     ("under", Y, "0E810432303036", "a length of two octets"),
     ("under", Y, "0E0532303036", "fewer octets than the length says"),
+    ("under", L6, "0E072B303131393835", "`+011985`: a leading 0"),
     ("under", time_type("HMS", "LD"), "0E0E30353A33303A36302B30353A3330", "`05:30:60+05:30`: second 60 in another minute"),
     ("under", time_type("HMSF3", "L"), "0E0C31353A32373A34362C353030", "`15:27:46,500`: a comma"),
     ("under", time_type("HM", "LD"), "0E0B31353A32372B30313A3030", "`15:27+01:00`: minutes 00"),
@@ -383,8 +403,8 @@ def head(asked):
 Made by `python3 tests/types_page.py`: every result in it is what the reference (`reference/`) answers. Nobody needs to know the
 standard to read it.
 
-A **type** says which values there are and how they look. It is one of four names, a list of settings, or two lists. A **text** is
-how a person writes a value. It becomes PER, which is bits, or DER, which is a tag, a length and contents. From either one the
+A **type** says which values there are and how they look. It is one of four names, a list of settings, or up to six lists. A **text**
+is how a person writes a value. It becomes PER, which is bits, or DER, which is a tag, a length and contents. From either one the
 **canonical text** comes back: a value may have several texts, and one of them is canonical.
 
 ```sh
@@ -462,7 +482,8 @@ def years(asked):
     rows = setting_rows(asked, [row._replace(meaning=year_spans(row.setting)) for row in YEARS], "Basic=Date Date=Y *")
     return f"""### Year
 
-With `Basic=Date Date=Y` beside it. A year of another setting than the type's is refused with {asked.no_text(Y, "1066")}.
+With `Basic=Date Date=Y` beside it. `Ln` has a sign and n digits, the first not 0, with n from 5 to 9. A year of another setting than
+the type's is refused with {asked.no_text(Y, "1066")}.
 
 {table("Setting | Years | Form | Text | PER, bits | DER", rows)}
 In PER the years {near.lowest} to {near.highest} take the fewest bits.
@@ -503,23 +524,23 @@ With `Basic=Interval` beside it and nothing else. [Below](#durations) is what a 
 {table("Setting | A value is | Text | PER, bits | DER", rows)}"""
 
 
-def two_lists(asked):
-    rows = [[pair, code(text), *encodings(asked.good(types, text))] for types, pair, values in PAIRS for text in values]
-    width = max(len(case.type) for case in BARRED)
-    refused = [f"{asked.no_type(case.type, case.text)}  {case.type:<{width}}  {case.why}" for case in BARRED]
+def several_lists(asked):
+    rows = [[years_named, code(text), *encodings(asked.good(types, text))] for types, years_named, values in TOGETHER for text in values]
+    width = max(len(case.why) for case in BARRED)
+    refused = [f"{asked.no_type(case.type, case.text)}  {case.why:<{width}}  {case.type}" for case in BARRED]
     lines = "\n".join
-    return f"""## Two lists
+    return f"""## Several lists
 
-A type of two lists with `|` between them has the values of both. They differ in Year alone, as `Basic` and `Proleptic` or as
-`Negative` and `L5`:
+A type of up to six lists with `|` between them has the values of all. They differ in Year alone: as `Basic` and `Proleptic`, or as any
+of `Negative` and `L5` to `L9`, in any order:
 
 ```text
-{lines(types for types, _, _ in PAIRS)}
+{lines(types for types, _, _ in TOGETHER)}
 ```
 
 {table("Years | Text | PER, bits | DER", rows)}
-Why these: each pair is one row of the standard's Table 2, so both of its Years have the same fields in PER. The first pair has
-years of four digits, the second years with a sign. All else with a bar is refused, with the number in front:
+Why these: `Basic` and `Proleptic` share their rows of the standard's Table 2, and so do the Years with a sign, so that all of a type's
+Years have the same fields in PER. All else with a bar is refused, with the number in front:
 
 ```text
 {lines(refused)}
@@ -597,12 +618,12 @@ def absent(asked):
     return f"""## What is not there
 
 Nothing is guessed or repaired. Here are types that are none, and texts under types that are there. Types with a bar are
-[above](#two-lists).
+[above](#several-lists).
 
 {table("What | Example | Result", rows)}"""
 
 
-SECTIONS = (head, names, basics, dates, years, times, zones, intervals, two_lists, limited, text_tables, durations, octets_refused, absent)
+SECTIONS = (head, names, basics, dates, years, times, zones, intervals, several_lists, limited, text_tables, durations, octets_refused, absent)
 
 
 def page(asked):

@@ -31,6 +31,10 @@ years() {
         Proleptic) echo 0000 1066 1581 ;;
         Negative) echo -0001 -0044 -9999 ;;
         L5) echo +10000 +99999 -10000 -99999 ;;
+        L6) echo +100000 +999999 -100000 -999999 ;;
+        L7) echo +1000000 +9999999 -1000000 -9999999 ;;
+        L8) echo +10000000 +99999999 -10000000 -99999999 ;;
+        L9) echo +100000000 +999999999 -100000000 -999999999 ;;
     esac
 }
 
@@ -76,7 +80,7 @@ in_zone() {
 
 vectors_of_dates() {
     for date in Y YM YMD YD YW YWD; do
-        for year in Basic Proleptic Negative L5; do
+        for year in Basic Proleptic Negative L5 L6 L7 L8 L9; do
             set --
             for number in $(years $year); do
                 set -- "$@" "$number$(after_year $date)"
@@ -106,7 +110,7 @@ vectors_of_times() {
 # each date with each Year setting and four times
 vectors_of_date_times() {
     for date in Y YM YMD YD YW YWD; do
-        for year in Basic Proleptic Negative L5; do
+        for year in Basic Proleptic Negative L5 L6 L7 L8 L9; do
             number=$(years $year)
             start=${number##* }$(after_year $date)T
             type="Basic=Date-Time Date=$date Year=$year"
@@ -131,12 +135,18 @@ vectors_of_names() {
     list 'Basic=Date-Time Date=YMD Year=Basic Time=HMS Local-or-UTC=L' "$@"
 }
 
-# two lists, and pairs in another order
+# two lists and more, and pairs in another order
 vectors_of_other_lists() {
     list 'Basic=Date Date=Y Year=Basic|Basic=Date Date=Y Year=Proleptic' 2006 1066
     list 'Basic=Date Date=YMD Year=Proleptic|Basic=Date Date=YMD Year=Basic' 2006-06-13 1066-10-14
     list 'Basic=Date Date=YW Year=Negative|Basic=Date Date=YW Year=L5' -0044-W11 -10000-W52 +10004-W53
     list 'Year=L5 Date=YWD Basic=Date|Date=YWD Basic=Date Year=Negative' -0044-W11-3 -99999-W01-1
+    list 'Basic=Date Date=YD Year=L6|Basic=Date Date=YD Year=Negative' -0044-366 +123456-366
+    list 'Date=YW Basic=Date Year=L9|Year=L5 Basic=Date Date=YW|Basic=Date Year=L7 Date=YW' \
+        +10004-W53 -1000000-W52 +999999620-W53 -999999980-W53
+    type='Basic=Date Date=Y Year='
+    list "${type}L5|${type}L6|${type}L7|${type}L8|${type}L9" +12345 -123456 +1234567 -12345678 +123456789
+    list "${type}L9|${type}L8|${type}L7|${type}L6|${type}Negative" -0001 -123456 +1234567 -12345678 -999999999
     list 'Year=Basic Date=YMD Basic=Date' 2006-06-13
     list 'Local-or-UTC=LD Time=HM Basic=Time' 15:27+01
     list 'Basic=Date Date=YD Year=Basic' 2006-001 2006-365 2008-366

@@ -4,7 +4,7 @@
 %% The types are those of DateTime.asn1, compiled into a temporary folder. A vector is a date, a time or both, or a
 %% duration, as numbers. From these come the value that is handed to Erlang's encoder, and the type and the text.
 
-%% A date:  {Family, Form, Year, A, B}. Family is basic (Basic and Proleptic) or any (Negative and L5).
+%% A date:  {Family, Form, Year, A, B}. Family is basic (Basic and Proleptic) or any (Negative and L5 to L9).
 %%          A and B are what follows the year in the form, or none.
 %% A time:  {Form, N, H, M, S, F, Zone}. N is the number of fraction digits, 0 without.
 %% A zone:  l, z, or {Sign, Hours, Minutes}.
@@ -16,11 +16,11 @@ main([]) ->
     try
         compile(filename:join(Here, "DateTime.asn1"), Temp),
         Made = lists:flatmap(fun lines/1, vectors()),
-        Lines = first_of_equals([L || L <- Made, length(L) =< 120]),
+        Lines = first_of_equals([L || L <- Made, length(L) =< 160]),
         [error({absent, L}) || L <- checked(), not lists:member(L, Lines)],
         ok = file:write_file(filename:join(Here, "per.txt"), [[L, $\n] || L <- Lines]),
-        io:format("~b lines; ~b of more than 120 columns left out~n",
-                  [length(Lines), length([L || L <- Made, length(L) > 120])])
+        io:format("~b lines; ~b of more than 160 columns left out~n",
+                  [length(Lines), length([L || L <- Made, length(L) > 160])])
     after
         file:del_dir_r(Temp)
     end.
@@ -110,13 +110,13 @@ last_day(Y, M) -> calendar:last_day_of_the_month(like(Y), M).
 power(N) -> list_to_integer("1" ++ lists:duplicate(N, $0)).
 highest(N) -> power(N) - 1.
 
-setting(Y) when Y >= 10000; Y =< -10000 -> "L5";
+setting(Y) when Y >= 10000; Y =< -10000 -> lists:concat(["L", length(integer_to_list(abs(Y)))]);
 setting(Y) when Y < 0 -> "Negative";
 setting(Y) when Y < 1582 -> "Proleptic";
 setting(_) -> "Basic".
 
 settings(basic) -> ["Basic", "Proleptic"];
-settings(any) -> ["Negative", "L5"].
+settings(any) -> ["Negative", "L5", "L6", "L7", "L8", "L9"].
 
 %% The row of Table 2, the name of a type of DateTime.asn1.
 
@@ -225,8 +225,8 @@ date_text({_, yd, Y, A, _}) -> [year_text(Y), $-, digits(3, A)];
 date_text({_, yw, Y, A, _}) -> [year_text(Y), "-W", digits(2, A)];
 date_text({_, ywd, Y, A, B}) -> [year_text(Y), "-W", digits(2, A), $-, digits(1, B)].
 
-year_text(Y) when Y >= 10000 -> [$+, digits(5, Y)];
-year_text(Y) when Y =< -10000 -> [$-, digits(5, -Y)];
+year_text(Y) when Y >= 10000 -> [$+, integer_to_list(Y)];
+year_text(Y) when Y =< -10000 -> [$-, integer_to_list(-Y)];
 year_text(Y) when Y < 0 -> [$-, digits(4, -Y)];
 year_text(Y) -> digits(4, Y).
 
@@ -276,13 +276,21 @@ years(any) ->
      -10000, -20000, -32767, -32768, -32769, -65536, -65537, -99996, -99999,
      10000, 10004, 12345, 32767, 32768, 65535, 65536, 99996, 99999].
 
+%% Years of six to nine digits: the ends of each length of digits and of octets, and years that are leap or have 53 weeks.
+large_years() ->
+    [100000, -100000, 123456, 999999, -999999,
+     1000000, -1000000, 8388607, 8388608, -8388608, -8388609, 9999999, -9999999,
+     10000000, -10000000, 10000020, 16777215, 16777216, -16777216, -16777217, 99999999, -99999999,
+     100000000, -100000000, 123456789, -123456789, 999999620, -999999600, -999999980, 999999999, -999999999].
+
 dates() ->
     [{Family, Form, Y, A, B} || Family <- families(), Form <- forms(), Y <- years(Family), {A, B} <- rest(Form, Y)]
         ++ [{basic, ymd, 2006, M, last_day(2006, M)} || M <- lists:seq(1, 12)]
         ++ [{basic, ymd, 2006, 6, 13}]
         ++ [{any, ym, -1, M, none} || M <- lists:seq(1, 12)]
         ++ [{basic, ywd, 2020, W, W rem 7 + 1} || W <- lists:seq(1, 53)]
-        ++ [{basic, yd, 2008, D, none} || D <- [2, 31, 60, 127, 128, 129, 256, 257]].
+        ++ [{basic, yd, 2008, D, none} || D <- [2, 31, 60, 127, 128, 129, 256, 257]]
+        ++ [{any, Form, Y, A, B} || Form <- forms(), Y <- large_years(), {A, B} <- rest(Form, Y)].
 
 %% Lowest and highest of each field that follows the year, and the ends of February.
 rest(y, _) -> [{none, none}];
@@ -341,13 +349,18 @@ fractions(N) ->
         ++ [highest(N)].
 
 %% Every row of dates with every row of times; the digits of the fraction go round from 1 to 9.
-%% Then one of the longest, 14 octets, and the highest date and time of each year.
+%% Then one of the longest of the base, 14 octets, and the highest date and time of each year.
+%% Then the same with years of six to nine digits, one date and time for each pair of rows.
 date_times() ->
     [{{basic, ymd, 2006, 6, 13}, {hms, 0, H, M, S, 0, l}} || {H, M, S} <- [{15, 27, 46}, {12, 34, 60}]]
         ++ lists:append([date_times(K, Family, Form, Clock, Fraction, Zone)
                          || {K, {Family, Form, Clock, Fraction, Zone}} <- numbered(combinations())])
         ++ [{{any, yd, -99999, days(-99999), none}, {hms, 9, 8, 59, 60, 999999999, {$-, 15, 0}}}]
-        ++ [{{Family, ymd, Y, 12, 31}, {hms, 0, 23, 59, 60, 0, l}} || Family <- families(), Y <- years(Family)].
+        ++ [{{Family, ymd, Y, 12, 31}, {hms, 0, 23, 59, 60, 0, l}} || Family <- families(), Y <- years(Family)]
+        ++ [large_date_time(K, Form, Clock, Fraction, Zone)
+            || {K, {any, Form, Clock, Fraction, Zone}} <- numbered(combinations())]
+        ++ [{{any, ymd, Y, 12, 31}, {hms, 0, 23, 59, 60, 0, l}} || Y <- large_years()]
+        ++ [{{any, ywd, -999999980, 53, 7}, {hms, 9, 15, 58, 60, 999999999, {$+, 15, 59}}}].
 
 combinations() ->
     [{Family, Form, Clock, Fraction, Zone} || Family <- families(), Form <- forms(), Fraction <- [false, true],
@@ -364,6 +377,14 @@ date_times(K, Family, Form, Clock, Fraction, Zone) ->
              || {{H, M, S}, F, Z} <- [{{24, 0, 0}, 0, Z0}, {highest_clock(Clock, Z1), highest(N), Z1},
                                       {{0, 0, 0}, highest(N) div 2, Z2}, {highest_clock(Clock, Z3), 0, Z3}]],
     lists:zip(Dates, Times).
+
+large_date_time(K, Form, Clock, Fraction, Zone) ->
+    N = case Fraction of true -> (K + K div 18) rem 9 + 1; false -> 0 end,
+    Y = nth(K, large_years()),
+    {A, B} = lists:last(rest(Form, Y)),
+    Z = zone(Zone, K),
+    {H, M, S} = highest_clock(Clock, Z),
+    {{any, Form, Y, A, B}, {Clock, N, H, M, S, highest(N), Z}}.
 
 ends(List) -> [hd(List), lists:last(List)].
 nth(I, List) -> lists:nth(I rem length(List) + 1, List).
@@ -427,6 +448,8 @@ checked() ->
      "Basic=Date Date=Y Year=Negative;-0129;02FF7F",
      "Basic=Date Date=Y Year=L5;+32767;027FFF",
      "Basic=Date Date=Y Year=L5;+32768;03008000",
+     "Basic=Date Date=Y Year=L9;+999999999;043B9AC9FF",
+     "Basic=Date Date=Y Year=L9;-999999999;04C4653601",
      "DURATION;P1Y6M;C004C0",
      "DURATION;PT0.5S;03000020",
      "DURATION;P1D;1004",

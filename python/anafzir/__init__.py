@@ -7,6 +7,8 @@
     '2006-06-13'
     >>> anafzir.DURATION.encode("P0Y0M1D", "der").hex()
     '1f22023144'
+    >>> anafzir.encode("Basic=Date Date=Y Year=L9|Basic=Date Date=Y Year=L8", "-123456789").hex()
+    '04f8a432eb'
     >>> anafzir.encode("DATE", "2006-02-29")
     Traceback (most recent call last):
     anafzir.NoSuchValue: 4: There is no such date, time or difference.
@@ -26,7 +28,7 @@ from functools import lru_cache, partial
 from operator import index
 from typing import Any, Callable, ClassVar, Literal, NoReturn, Optional, Union
 
-__version__ = "0.2.0"
+__version__ = "0.3.0"
 
 __all__ = [
     "DATE", "DATE_TIME", "DURATION", "TIME_OF_DAY", "Type", "decode", "encode",
@@ -59,13 +61,14 @@ class Refused(ValueError):
 
 
 class BadType(Refused):
-    """The type cannot be read, or a limit has no place in it: years without a date, hour 24 without a time."""
+    """The type cannot be read, has more than six lists or two that are equal, or a limit has no place in it: years without a date,
+    hour 24 without a time."""
 
     number, name = 1, "BAD_TYPE"
 
 
 class MixedType(Refused):
-    """The type's two lists can each be read and do not belong together."""
+    """The type's lists can each be read and do not belong together: they differ in more than Year, or in Years of two rows."""
 
     number, name = 2, "MIXED_TYPE"
 
@@ -86,7 +89,7 @@ class NoSuchValue(Refused):
 
 
 class NotInType(Refused):
-    """The value exists, and the type does not have it: another Year setting, or a limit leaves it out."""
+    """The value exists, and the type does not have it: a Year setting that it does not name, or a limit leaves it out."""
 
     number, name = 5, "NOT_IN_TYPE"
 
@@ -222,9 +225,10 @@ def _limits(lowest: Optional[int], highest: Optional[int], no_hour_24: bool) -> 
 class Type:
     """A type: its text, and limits beside it. It never changes, and can be a key of a dict.
 
-    The text is "DATE", "TIME-OF-DAY", "DATE-TIME" or "DURATION", or settings such as "Basic=Date Date=YMD Year=Basic", or two such
-    lists with `|` between them. `lowest` and `highest` leave out the years below and above them, as astronomical years: 0 is the
-    year 0000, -1 is -0001; where one is given alone, the other side is open. `no_hour_24` leaves out 24:00:00.
+    The text is "DATE", "TIME-OF-DAY", "DATE-TIME" or "DURATION", or settings such as "Basic=Date Date=YMD Year=Basic", or up to six
+    such lists with `|` between them. They differ in Year alone: Basic and Proleptic, or any of Negative and L5 to L9, in any order.
+    `lowest` and `highest` leave out the years below and above them, as astronomical years: 0 is the year 0000, -1 is -0001; where one
+    is given alone, the other side is open. `no_hour_24` leaves out 24:00:00.
 
     Nothing is judged here: a type that cannot be read is refused, with BadType or MixedType, where it is first used. Two types are
     equal where the library sees the same octets and the same limits.

@@ -9,7 +9,7 @@
 enum { LARGEST = 24, LENT = 0xAA, MARK = 0x5C };
 
 /* The restrictions of the cases. */
-enum bounds { NONE, DECADE, REVERSED, SINGLE, NO_24, DECADE_NO_24 };
+enum bounds { NONE, DECADE, REVERSED, SINGLE, LAST, NO_24, DECADE_NO_24 };
 
 static const struct {
     const char *name;
@@ -19,6 +19,7 @@ static const struct {
     [DECADE] = {"2000..2010", {1, 2000, 2010, 0, 0, 0, 0}},
     [REVERSED] = {"2010..2000", {1, 2010, 2000, 0, 0, 0, 0}},
     [SINGLE] = {"-44..-44", {1, -44, -44, 0, 0, 0, 0}},
+    [LAST] = {"999999999..2147483647", {1, 999999999, INT32_MAX, 0, 0, 0, 0}},
     [NO_24] = {"no24", {0, 0, 0, 1, 0, 0, 0}},
     [DECADE_NO_24] = {"2000..2010,no24", {1, 2000, 2010, 1, 0, 0, 0}},
 };
@@ -30,6 +31,11 @@ struct octets {
 
 /* The octets of a literal, zeros among them too. */
 #define OCTETS(literal) {literal, sizeof(literal) - 1}
+
+/* A list of years, and six of them in two orders. */
+#define Y(year) "Basic=Date Date=Y Year=" year
+#define SIX_LISTS Y("Negative") "|" Y("L5") "|" Y("L6") "|" Y("L7") "|" Y("L8") "|" Y("L9")
+#define SIX_OTHERWISE Y("L9") "|" Y("L6") "|" Y("Negative") "|" Y("L8") "|" Y("L5") "|" Y("L7")
 
 /* A value: its text, its octets in PER and its octets in DER, each made of the others. */
 static const struct {
@@ -83,6 +89,27 @@ static const struct {
      OCTETS("\x0E\x0F" "00:59:60.999+01")},
     {"Basic=Date-Time Date=Y Year=Basic Time=HMS Local-or-UTC=Z", DECADE_NO_24, OCTETS("2005T23:59:60Z"), OCTETS("\x02\xFD\xF8"),
      OCTETS("\x0E\x0E" "2005T23:59:60Z")},
+    {Y("L5"), NONE, OCTETS("+10000"), OCTETS("\x02\x27\x10"), OCTETS("\x0E\x06" "+10000")},
+    {Y("L5"), NONE, OCTETS("-99999"), OCTETS("\x03\xFE\x79\x61"), OCTETS("\x0E\x06" "-99999")},
+    {Y("L6"), NONE, OCTETS("+100000"), OCTETS("\x03\x01\x86\xA0"), OCTETS("\x0E\x07" "+100000")},
+    {Y("L6"), NONE, OCTETS("-999999"), OCTETS("\x03\xF0\xBD\xC1"), OCTETS("\x0E\x07" "-999999")},
+    {Y("L7"), NONE, OCTETS("-1000000"), OCTETS("\x03\xF0\xBD\xC0"), OCTETS("\x0E\x08" "-1000000")},
+    {Y("L7"), NONE, OCTETS("+9999999"), OCTETS("\x04\x00\x98\x96\x7F"), OCTETS("\x0E\x08" "+9999999")},
+    {Y("L8"), NONE, OCTETS("+10000000"), OCTETS("\x04\x00\x98\x96\x80"), OCTETS("\x0E\x09" "+10000000")},
+    {Y("L8"), NONE, OCTETS("-99999999"), OCTETS("\x04\xFA\x0A\x1F\x01"), OCTETS("\x0E\x09" "-99999999")},
+    {Y("L9"), NONE, OCTETS("-100000000"), OCTETS("\x04\xFA\x0A\x1F\x00"), OCTETS("\x0E\x0A" "-100000000")},
+    {Y("L9"), NONE, OCTETS("-999999999"), OCTETS("\x04\xC4\x65\x36\x01"), OCTETS("\x0E\x0A" "-999999999")},
+    {Y("L9"), LAST, OCTETS("+999999999"), OCTETS("\x04\x3B\x9A\xC9\xFF"), OCTETS("\x0E\x0A" "+999999999")},
+    {Y("L7") "|" Y("Negative"), NONE, OCTETS("-0128"), OCTETS("\x01\x80"), OCTETS("\x0E\x05" "-0128")},
+    {SIX_LISTS, NONE, OCTETS("-0129"), OCTETS("\x02\xFF\x7F"), OCTETS("\x0E\x05" "-0129")},
+    {SIX_OTHERWISE, NONE, OCTETS("-8388608"), OCTETS("\x03\x80\x00\x00"), OCTETS("\x0E\x08" "-8388608")},
+    {SIX_OTHERWISE, NONE, OCTETS("-8388609"), OCTETS("\x04\xFF\x7F\xFF\xFF"), OCTETS("\x0E\x08" "-8388609")},
+    {"Basic=Date Date=YMD Year=L9", NONE, OCTETS("+999999600-02-29"), OCTETS("\x04\x3B\x9A\xC8\x70\x1E\x00"),
+     OCTETS("\x0E\x10" "+999999600-02-29")},
+    {"Basic=Date Date=YW Year=L9", NONE, OCTETS("-999999980-W53"), OCTETS("\x04\xC4\x65\x36\x14\xD0"),
+     OCTETS("\x0E\x0E" "-999999980-W53")},
+    {"Basic=Date-Time Date=YD Year=L9 Time=H Local-or-UTC=Z", NONE, OCTETS("-999999996-366T24Z"),
+     OCTETS("\x04\xC4\x65\x36\x04\xB6\xE0"), OCTETS("\x0E\x12" "-999999996-366T24Z")},
 };
 
 /* A text that is to be refused, in PER and in DER. */
@@ -131,6 +158,28 @@ static const struct {
     {"Basic=Time Time=HMSF3 Local-or-UTC=LD", NONE, OCTETS("12:34:60,500+01:00")},
     {"Basic=Date-Time Date=Y Year=Basic Time=HMS Local-or-UTC=Z", DECADE, OCTETS("1999T12:34:60Z")},
     {"Basic=Date-Time Date=Y Year=Basic Time=HMS Local-or-UTC=Z", DECADE, OCTETS("1999T23:59:60Z")},
+    {Y("L9"), NONE, OCTETS("+99999999")},
+    {Y("L8"), NONE, OCTETS("-100000000")},
+    {Y("Basic"), NONE, OCTETS("+123456")},
+    {Y("L9"), LAST, OCTETS("+999999998")},
+    {Y("L6"), NONE, OCTETS("+011985")},
+    {Y("L9"), NONE, OCTETS("+1000000000")},
+    {SIX_LISTS, NONE, OCTETS("+2006")},
+    {SIX_LISTS, NONE, OCTETS("-00001")},
+    {SIX_LISTS, NONE, OCTETS("123456")},
+    {"Basic=Date Date=YMD Year=L5", NONE, OCTETS("+123456-02-30")},
+    {"Basic=Date Date=YMD Year=L9", NONE, OCTETS("+999999900-02-29")},
+    {Y("L4"), NONE, OCTETS("+1234")},
+    {Y("L6") "|" Y("L10"), NONE, OCTETS("+123456")},
+    {Y("L6") "|" Y("L6"), NONE, OCTETS("+123456")},
+    {Y("Basic") "|" Y("L6") "|" Y("L6"), NONE, OCTETS("+123456")},
+    {Y("L6") "|" Y("Basic") "|Year=L6 Date=Y Basic=Date", NONE, OCTETS("+123456")},
+    {SIX_LISTS "|" Y("Basic"), NONE, OCTETS("+123456")},
+    {Y("L6") "|DATE", NONE, OCTETS("+123456")},
+    {Y("L6") "|" Y("L7") "|Basic=Time Time=HMS Local-or-UTC=Z", DECADE, OCTETS("+123456")},
+    {Y("L6") "|" Y("L7") "|Basic=Time Time=HMS Local-or-UTC=Z", NONE, OCTETS("+123456")},
+    {Y("L6") "|" Y("L7") "|" Y("Proleptic"), NONE, OCTETS("+123456")},
+    {Y("L7") "|" Y("L5") "|Basic=Date Date=YM Year=L6", DECADE, OCTETS("+123456-06")},
 };
 
 /* Octets that are to be refused. */
@@ -187,6 +236,19 @@ static const struct {
     {UNDER, "Basic=Time Time=HMSF3 Local-or-UTC=LD", NONE, OCTETS("\x0E\x12" "12:34:60,500+01:00")},
     {UNDER, "Basic=Date-Time Date=Y Year=Basic Time=HMS Local-or-UTC=Z", DECADE, OCTETS("\x0E\x0E" "1999T12:34:60Z")},
     {UNDER, "Basic=Date-Time Date=Y Year=Basic Time=HMS Local-or-UTC=Z", DECADE, OCTETS("\x0E\x0E" "1999T23:59:60Z")},
+    {UNPER, Y("L5"), NONE, OCTETS("\x03\x01\xE2\x40")},
+    {UNPER, Y("L9") "|" Y("L7"), NONE, OCTETS("\x04\xFF\x43\x9E\xB2")},
+    {UNPER, "Basic=Date Date=YMD Year=L5", NONE, OCTETS("\x04\x3B\x9A\xC8\x70\x1E\x00")},
+    {UNPER, SIX_LISTS, NONE, OCTETS("\x04\x3B\x9A\xCA\x00")},
+    {UNPER, SIX_LISTS, NONE, OCTETS("\x04\x80\x00\x00\x00")},
+    {UNPER, SIX_LISTS, NONE, OCTETS("\x05\x00\x3B\x9A\xC9\xFF")},
+    {UNPER, SIX_LISTS, NONE, OCTETS("\x04\x00\x01\xE2\x40")},
+    {UNPER, Y("L5"), NONE, OCTETS("\x04\x00\x01\xE2\x40")},
+    {UNPER, Y("Basic"), NONE, OCTETS("\xC0\xC0\x78\x90\x00")},
+    {UNDER, Y("L5"), NONE, OCTETS("\x0E\x07" "+123456")},
+    {UNDER, Y("L6"), NONE, OCTETS("\x0E\x07" "+011985")},
+    {UNDER, Y("L9"), NONE, OCTETS("\x0E\x0B" "+1000000000")},
+    {UNDER, SIX_LISTS, NONE, OCTETS("\x0E\x0A" "-999999999\x00")},
 };
 
 static void print_hex(const uint8_t *octets, size_t count)

@@ -84,7 +84,8 @@ static void reply(uint8_t *line, size_t length)
 /* Counts have no place in any type: 1, whatever else is wrong, and the room as it was. */
 static void counts(void)
 {
-    const char *types[] = {"DATE", "DURATION", "DATE|DATE", "", "Basic=Date Date=Y Year=Basic|Basic=Date Date=Y Year=L5"};
+    const char *types[] = {"DATE", "DURATION", "DATE|DATE", "", "Basic=Date Date=Y Year=Basic|Basic=Date Date=Y Year=L5",
+                           "Basic=Date Date=Y Year=L9|Basic=Date Date=Y Year=L5|Basic=Date Date=Y Year=L6"};
     for (size_t i = 0; i < WORK_COUNT; i++)
         for (size_t k = 0; k < sizeof types / sizeof *types; k++)
             for (uint32_t count = 1; count != 0; count *= 2) {

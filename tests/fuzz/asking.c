@@ -106,7 +106,7 @@ static void print_asked(const struct question *q)
     print_hex(q->type, q->type_length);
     fprintf(stderr, " ");
     print_hex(q->input, q->input_length);
-    fprintf(stderr, " %zu %u %d\n", q->room_length, q->places, q->good);
+    fprintf(stderr, " %zu %u %" PRIu32 "\n", q->room_length, q->places, q->known);
 }
 
 static void print_violation(const char *what)

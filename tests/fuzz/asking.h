@@ -15,6 +15,9 @@ enum { TYPE_AT_START = 1, INPUT_AT_START = 2, ROOM_AT_START = 4, EVERY_PLACE = 7
 /* How a call is made: with one or the other marks in memory, and with NULL for buffers of no octets. */
 enum manner { MARKED, MARKED_OTHERWISE, WITH_NULLS };
 
+/* Where no number of a question is known. */
+enum { UNKNOWN = 8 };
+
 /* What an entry point is asked. */
 struct question {
     enum work work;
@@ -25,8 +28,8 @@ struct question {
     size_t input_length;
     size_t room_length;
     unsigned places;
-    /* Whether the input is known to be one that the type has, limits aside. */
-    int good;
+    /* The number that it is known to have, limits aside: 0 where the type has the input; or UNKNOWN. */
+    uint32_t known;
 };
 
 /* What comes back, with the octets of the result. */

@@ -1,5 +1,6 @@
 /* Everything small: under each well-formed type all short octets in both decoders, all texts and types that differ from a good
- * one in one octet, and all encodings that differ from a good one in one or two bits. What is done at which depth is in DEPTHS.
+ * one in one octet, and all encodings that differ from a good one in one or two bits; and lists that need not make a type. What is
+ * done at which depth is in DEPTHS.
  *
  *     exhaustive DEPTH       checks, and prints how many questions had an answer of each number
  *     exhaustive again WORDS checks the question of the words behind `again` that a violation printed
@@ -41,33 +42,35 @@ static const struct anafzir_limits LIMITS[] = {
     {0, 0, 0, 1, 0, 0, 0},
     {0, 0, 0, UINT32_MAX, 0, 0, 0},
     {1, -99999, 99999, 256, 0, 0, 0},
+    {1, -999999999, 100000000, 0, 0, 0, 0},
+    {1, 999999999, INT32_MAX, 0, 0, 0, 0},
     {0, 0, 0, 0, 1, 0, 0},
 };
 
 enum { LIMITS_COUNT = sizeof LIMITS / sizeof *LIMITS };
 
 /* One question under a type. Rooms and places take turns. */
-static void try_with(enum work work, struct anafzir_limits limits, const struct text *type, const struct text *input, int good)
+static void try_with(enum work work, struct anafzir_limits limits, const struct text *type, const struct text *input, uint32_t known)
 {
     static const size_t ROOMS[] = {ANAFZIR_ROOM, ANAFZIR_ROOM, 0, ANAFZIR_ROOM, 3, ANAFZIR_ROOM, 12, 200};
     static unsigned turn;
     size_t room_length = ROOMS[turn % 8];
     unsigned places = turn / 8 % 8;
-    struct question q = {work, limits, type->octets, type->length, input->octets, input->length, room_length, places, good};
+    struct question q = {work, limits, type->octets, type->length, input->octets, input->length, room_length, places, known};
     turn++;
     counts[check(&q)]++;
 }
 
 static void try(enum work work, const struct text *type, const struct text *input)
 {
-    try_with(work, LIMITS[0], type, input, 0);
+    try_with(work, LIMITS[0], type, input, UNKNOWN);
 }
 
 /* A good input, with each of the limits. */
 static void try_good(enum work work, const struct text *type, const struct text *input)
 {
     for (int i = 0; i < LIMITS_COUNT; i++)
-        try_with(work, LIMITS[i], type, input, 1);
+        try_with(work, LIMITS[i], type, input, 0);
 }
 
 /* All octets of a length in a work. */
@@ -164,7 +167,7 @@ static void try_bits(enum work work, const struct text *type, struct text *octet
 /* The encoding of a good text, or no octets where it is refused; that the text is taken is seen elsewhere. */
 static void encode(enum work work, const struct text *type, const struct text *text, struct text *octets)
 {
-    struct question q = {work, LIMITS[0], type->octets, type->length, text->octets, text->length, ANAFZIR_ROOM, 0, 1};
+    struct question q = {work, LIMITS[0], type->octets, type->length, text->octets, text->length, ANAFZIR_ROOM, 0, 0};
     struct answer a;
     ask_for_input(&q, &a);
     octets->length = 0;
@@ -201,12 +204,20 @@ static void try_good_texts(int number, const struct depth *depth)
     }
 }
 
+/* Whether all that is near a type is tried: of those with more than two lists, which are long, only years. */
+static int has_neighbours(const struct settings *t)
+{
+    return t->lists < 3 || t->date == 0;
+}
+
 /* Inputs that are near a good text, or near its encoding. */
 static void try_near_texts(int number, const struct depth *depth)
 {
     static struct text type, text, octets;
     struct settings t = settings_at(number);
     int pairs = number < NAME_COUNT ? depth->name_pairs : depth->list_pairs;
+    if (!has_neighbours(&t))
+        return;
     put_type(&t, &type);
     for (int i = 0; i < 2 * depth->texts; i++) {
         enum work work = ENCODERS[i % 2];
@@ -223,6 +234,8 @@ static void try_near_settings(int number, const struct depth *depth)
 {
     static struct text type, text;
     struct settings t = settings_at(number);
+    if (!has_neighbours(&t))
+        return;
     put_type(&t, &type);
     make_text(&t, depth->texts, number, &text);
     try_near_types(&type, &text);
@@ -236,6 +249,57 @@ static void try_short_octets(int number, const struct depth *depth)
     size_t settings_octets = number < FEW_TYPES ? depth->list_octets : depth->date_time_octets;
     put_type(&t, &type);
     try_short(&type, number < NAME_COUNT ? depth->name_octets : settings_octets);
+}
+
+/* Lists that need not make a type, without limits and with one of them by turns. */
+static void try_lists(const struct settings *lists, size_t count)
+{
+    static struct text type, text;
+    static int turn;
+    uint32_t number = number_of_lists(lists, count);
+    put_lists(lists, count, &type);
+    make_text(lists, turn, 0, &text);
+    for (int i = 0; i < 2; i++, turn++)
+        try_with((enum work)(turn / 2 % WORK_COUNT), LIMITS[i * turn % LIMITS_COUNT], &type, &text, number == 0 ? UNKNOWN : number);
+}
+
+/* Dates of one form with Years of all kinds: up to three in any order, the words that are none among them. */
+static void try_few_years(void)
+{
+    struct settings lists[3];
+    for (int i = 0; i < YEAR_COUNT * YEAR_WORD_COUNT * YEAR_WORD_COUNT; i++) {
+        for (int k = 0; k < 3; k++)
+            lists[k] = list_at(i % YEAR_COUNT);
+        lists[1].years[0] = i / YEAR_COUNT % YEAR_WORD_COUNT;
+        lists[2].years[0] = i / YEAR_COUNT / YEAR_WORD_COUNT;
+        try_lists(lists, 2);
+        try_lists(lists, 3);
+    }
+}
+
+/* The six signed Years from any of them on, one of them changed to any other, and the same with a seventh list. */
+static void try_many_years(void)
+{
+    struct settings lists[MOST_LISTS + 1];
+    for (int i = 0; i < MOST_LISTS * (MOST_LISTS + 1) * YEAR_COUNT; i++) {
+        for (int k = 0; k <= MOST_LISTS; k++)
+            lists[k] = list_at(NEGATIVE + (i + k) % MOST_LISTS);
+        lists[i / MOST_LISTS % (MOST_LISTS + 1)] = list_at(i / MOST_LISTS / (MOST_LISTS + 1));
+        for (size_t count = 4; count <= MOST_LISTS + 1; count++)
+            try_lists(lists, count);
+    }
+}
+
+/* Any two lists of a depth, once and with one of them repeated. */
+static void try_two_lists(const struct depth *depth)
+{
+    for (int i = 0; i < LIST_COUNT; i += i < FEW_LISTS ? 1 : depth->date_time_step)
+        for (int j = 0; j < LIST_COUNT; j += j < FEW_LISTS ? 1 : depth->date_time_step) {
+            const struct settings first = list_at(i), second = list_at(j), lists[] = {first, second, second, first};
+            for (size_t count = 2; count <= 4; count++)
+                try_lists(lists, count);
+            try_lists(lists + 2, 2);
+        }
 }
 
 /* Tries something under every type of a depth. */
@@ -254,7 +318,10 @@ int main(int count, char **words)
         fprintf(stderr, "usage: exhaustive DEPTH, with a depth from 0 to %d; or exhaustive again WORDS\n", DEPTH_COUNT - 1);
         return 2;
     }
+    try_few_years();
+    try_many_years();
     each_type(try_good_texts, DEPTHS + chosen);
+    try_two_lists(DEPTHS + chosen);
     each_type(try_near_texts, DEPTHS + chosen);
     each_type(try_near_settings, DEPTHS + chosen);
     each_type(try_short_octets, DEPTHS + chosen);

@@ -1,7 +1,7 @@
 /* Wrong libraries, to see that the drivers notice: each fault stands between a driver and the library, which is linked with
  * -Wl,--wrap for each entry point. The environment's ANAFZIR_FAULT names one; without it the library is as it is. `run` reads the
  * names and what they violate from the table of this file. */
-#include "asking.h"
+#include "faults.h"
 
 #include <stdio.h>
 #include <stdlib.h>
@@ -10,8 +10,6 @@
 #define ARGUMENTS                                                                                                            \
     const uint8_t *type, size_t type_length, struct anafzir_limits limits, const uint8_t *input, size_t input_length,        \
         uint8_t *room, size_t room_length
-
-typedef struct anafzir_outcome outcome;
 
 outcome __real_anafzir_per_encode(ARGUMENTS);
 outcome __real_anafzir_per_decode(ARGUMENTS);
@@ -22,21 +20,9 @@ outcome __wrap_anafzir_per_decode(ARGUMENTS);
 outcome __wrap_anafzir_der_encode(ARGUMENTS);
 outcome __wrap_anafzir_der_decode(ARGUMENTS);
 
-/* A call, which a fault may change before it is made. */
-struct call {
-    enum work work;
-    const uint8_t *type;
-    size_t type_length;
-    struct anafzir_limits limits;
-    const uint8_t *input;
-    size_t input_length;
-    uint8_t *room;
-    size_t room_length;
-};
-
 static const outcome NUMBER_3 = {3, 0, 0}, NUMBER_4 = {4, 0, 0}, NUMBER_7 = {7, 0, 0};
 
-static outcome real(const struct call *c)
+outcome real(const struct call *c)
 {
     outcome (*const REAL[])(ARGUMENTS) = {
         [PER] = __real_anafzir_per_encode,
@@ -47,30 +33,39 @@ static outcome real(const struct call *c)
     return REAL[c->work](c->type, c->type_length, c->limits, c->input, c->input_length, c->room, c->room_length);
 }
 
-/* The call with other octets as its input. */
-static outcome real_on(struct call c, const uint8_t *input, size_t length)
+outcome real_on(struct call c, const uint8_t *input, size_t length)
 {
     c.input = input;
     c.input_length = length;
     return real(&c);
 }
 
-/* The call in a room of its own. */
-static outcome real_aside(struct call c, uint8_t octets[ANAFZIR_ROOM])
+outcome real_aside(struct call c, uint8_t octets[ANAFZIR_ROOM])
 {
     c.room = octets;
     c.room_length = ANAFZIR_ROOM;
     return real(&c);
 }
 
-/* Whether the input has a string in it. */
-static int has(const struct call *c, const char *string)
+outcome refused(uint32_t number)
+{
+    outcome o = {number, 0, 0};
+    return o;
+}
+
+/* Whether octets have a string in them, and whether the input has. */
+static int has_string(const uint8_t *octets, size_t count, const char *string)
 {
     size_t length = strlen(string);
-    for (size_t i = 0; i + length <= c->input_length; i++)
-        if (memcmp(c->input + i, string, length) == 0)
+    for (size_t i = 0; i + length <= count; i++)
+        if (memcmp(octets + i, string, length) == 0)
             return 1;
     return 0;
+}
+
+static int has(const struct call *c, const char *string)
+{
+    return has_string(c->input, c->input_length, string);
 }
 
 static outcome refusal_writes(struct call *c)
@@ -411,9 +406,12 @@ static int has_seconds(struct call c, const uint8_t *octets, const char *seconds
     return place > 0 && memcmp(text + place, seconds, 2) == 0;
 }
 
-/* Puts second 59 for second 60 into octets of PER, at the bits which make it 58 where the last one is turned. Whether it could. */
+/* Puts second 59 for second 60 into octets of PER, at the bits which make it 58 where the last one is turned. Whether it could. Only
+ * names have `TIME` in capitals. */
 static int put_59_in_bits(const struct call *c, uint8_t *octets)
 {
+    if (!has_string(c->type, c->type_length, "HMS") && !has_string(c->type, c->type_length, "TIME"))
+        return 0;
     for (size_t last = 5; last < 8 * c->input_length; last++) {
         turn(octets, last, 3);
         int is_59 = has_seconds(*c, octets, "59");
@@ -741,6 +739,28 @@ static const struct {
     {"second-60-in-bits-3", "second 60 elsewhere is 4", second_60_in_bits_3},
     {"second-60-after-5", "second 60 elsewhere is 4", second_60_after_5},
     {"second-60-after-6", "second 60 elsewhere is 4", second_60_after_6},
+    {"neighbours-compared", "a type that is none is 1", neighbours_compared},
+    {"first-compared", "a type that is none is 1", first_compared},
+    {"seventh-list-ignored", "a type that is none is 1", seventh_list_ignored},
+    {"last-list-ignored", "a good input is taken|a year of the type's settings is taken", last_list_ignored},
+    {"three-lists-refused", "a good input is taken|lists that make no row are 2", three_lists_refused},
+    {"six-lists-refused", "a good input is taken|lists that make no row are 2", six_lists_refused},
+    {"order-of-lists", "a good input is taken", order_of_lists},
+    {"mixed-lists-taken", "lists that make no row are 2", mixed_lists_taken},
+    {"two-before-equal", "a type that is none is 1", two_before_equal},
+    {"two-before-limits", "a limit without its place in some list is 1, before 2", two_before_limits},
+    {"l7-as-l6", "a good input is taken|a year of the type's settings is taken", l7_as_l6},
+    {"l66-as-l6", "a type that is none is 1", l66_as_l6},
+    {"leading-0-taken", "a year that is not of the form is 3|a text comes back as its canonical text", leading_0_taken},
+    {"ten-digits-5", "a year that is not of the form is 3", ten_digits_5},
+    {"l9-to-32-bits", "a year of no setting of the type is 5", l9_to_32_bits},
+    {"l9-ends-early", "a good input is taken|a year of the type's settings is taken", l9_ends_early},
+    {"other-length-3", "a year of no setting of the type is 5", other_length_3},
+    {"other-length-in-bits-3", "a year of no setting of the type is 5", other_length_in_bits_3},
+    {"five-before-four", "30 February is 4 in every year", five_before_four},
+    {"leap-years-by-16-bits", "a good input is taken|a year of", leap_years_by_16_bits},
+    {"four-octets-always", "a year of the type's settings is taken|a year of no setting of the type is 5", four_octets_always},
+    {"limits-of-five-digits", "limits have the number that they say|a year of no setting of the type is 5", limits_of_five_digits},
     {"no-return", "a call returns", no_return},
     {"trap", "a call returns", trap},
 };

@@ -47,34 +47,61 @@ static void any_octets(struct source *s, struct text *t)
     take_rest(s, below(s, 4) == 0 ? half : below(s, 20), t);
 }
 
-/* Two lists that need not belong together. */
-static void two_lists(struct source *s, const struct settings *first, struct text *type)
+/* The most lists that are tried together: one more than a type has. */
+enum { LISTS_TRIED = MOST_LISTS + 1 };
+
+/* A list beside another one: the same, one with another Year of the same rows, of any, or of a word that is none, or any other list
+ * or name. Its pairs have their own order. */
+static struct settings any_list(struct source *s, const struct settings *beside)
 {
-    struct text second;
-    struct settings other = below(s, 2) == 0 ? any_settings(s) : *first;
-    if (below(s, 2) == 0)
-        other.years = (int)below(s, 8);
-    put_type(&other, &second);
-    add(type, "|", 1);
-    add(type, (const char *)second.octets, second.length);
+    uint32_t kind = below(s, 16);
+    struct settings list = kind < 4 ? any_settings(s) : *beside;
+    if (kind == 4)
+        list.years[0] = (int)below(s, YEAR_WORD_COUNT);
+    else if (kind < 9 && kind > 4)
+        list.years[0] = (int)below(s, YEAR_COUNT);
+    else if (kind < 14 && kind > 8)
+        list.years[0] = list.years[0] < NEGATIVE ? (int)below(s, NEGATIVE) : NEGATIVE + (int)below(s, YEAR_COUNT - NEGATIVE);
+    list.order = below(s, 120);
+    return list;
 }
 
-/* A type: well-formed, which comes back as 1, or damaged, or two lists, or any octets. */
-static int choose_type(struct source *s, const struct settings *t, struct text *type)
+/* The lists of a type, and some more that need not belong to them, up to seven, in any order. Their number. */
+static uint32_t several_lists(struct source *s, const struct settings *t, struct text *type)
 {
+    struct settings lists[LISTS_TRIED];
+    size_t count = (size_t)t->lists;
+    for (size_t i = 0; i < count; i++) {
+        lists[i] = *t;
+        lists[i].years[0] = t->years[i];
+    }
+    for (uint32_t more = 1 + below(s, 3); more > 0 && count < LISTS_TRIED; more--) {
+        size_t place = below(s, (uint32_t)count);
+        lists[count] = lists[place];
+        lists[place] = any_list(s, lists + count);
+        count++;
+    }
+    put_lists(lists, count, type);
+    return number_of_lists(lists, count);
+}
+
+/* A type: well-formed, which comes back as 0, or several lists, with their number, or damaged, or any octets. */
+static uint32_t choose_type(struct source *s, const struct settings *t, struct text *type)
+{
+    uint32_t number;
     put_type(t, type);
     switch (below(s, 16)) {
     case 0:
         any_octets(s, type);
-        return 0;
+        return UNKNOWN;
     case 1:
         damage_some(s, type);
-        return 0;
+        return UNKNOWN;
     case 2:
-        two_lists(s, t, type);
-        return 0;
+        number = several_lists(s, t, type);
+        return number == 0 ? UNKNOWN : number;
     default:
-        return 1;
+        return 0;
     }
 }
 
@@ -82,7 +109,7 @@ static int choose_type(struct source *s, const struct settings *t, struct text *
 static void encode(const struct question *q, struct text *t)
 {
     struct question asked = {back_from(q->work), {0, 0, 0, 0, 0, 0, 0}, q->type, q->type_length, t->octets, t->length, ANAFZIR_ROOM,
-                             0, 0};
+                             0, UNKNOWN};
     struct answer a;
     ask_for_input(&asked, &a);
     if (a.outcome.number != 0)
@@ -115,13 +142,13 @@ static int choose_input(struct source *s, const struct settings *t, const struct
     return kind > 5;
 }
 
-/* One of the years that texts often have, or any number. */
+/* One of the years that texts often have, one at an end of the years with nine digits, or any number. */
 static int32_t any_limit(struct source *s)
 {
+    static const int32_t FROM[] = {-10, 1970, -1000000030, 999999970};
     if (below(s, 4) == 0)
         return (int32_t)(below(s, UINT32_MAX) - INT32_MAX);
-    int32_t from = below(s, 2) == 0 ? -10 : 1970;
-    return from + (int32_t)below(s, 60);
+    return FROM[below(s, 8) < 6 ? below(s, 2) : 2 + below(s, 2)] + (int32_t)below(s, 60);
 }
 
 static struct anafzir_limits any_limits(struct source *s)
@@ -161,9 +188,10 @@ int LLVMFuzzerTestOneInput(const uint8_t *octets, size_t length)
     struct anafzir_limits limits = any_limits(&s);
     size_t room_length = any_room(&s);
     struct settings t = any_settings(&s);
-    int good_type = choose_type(&s, &t, &type);
-    struct question q = {(enum work)(start % 4), limits, type.octets, type.length, input.octets, 0, room_length, start / 4, 0};
-    q.good = choose_input(&s, &t, &q, &input) && good_type;
+    uint32_t type_number = choose_type(&s, &t, &type);
+    struct question q = {(enum work)(start % 4), limits, type.octets, type.length, input.octets, 0, room_length, start / 4, UNKNOWN};
+    int good = choose_input(&s, &t, &q, &input);
+    q.known = good || type_number != 0 ? type_number : UNKNOWN;
     q.input_length = input.length;
     uint32_t number = check(&q);
     counts[number]++;

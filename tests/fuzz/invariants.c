@@ -1,5 +1,7 @@
-/* What follows from an answer: the same question elsewhere, in other rooms, the way back, the other encoding, and limits. */
+/* What follows from an answer: the same question elsewhere, in other rooms, the way back, the other encoding, limits, second 60, and
+ * other years. */
 #include "invariants.h"
+#include "years.h"
 
 #include <inttypes.h>
 #include <stdio.h>
@@ -8,7 +10,7 @@
 
 static const struct anafzir_limits NO_LIMITS;
 
-static int same_octets(const struct answer *a, const uint8_t *octets, size_t length)
+int same_octets(const struct answer *a, const uint8_t *octets, size_t length)
 {
     return a->outcome.length == length && (length == 0 || memcmp(a->octets, octets, length) == 0);
 }
@@ -167,8 +169,7 @@ static const char *time_in(const char *text)
     return mark != NULL ? mark + 1 : has_date(text) ? NULL : text;
 }
 
-/* The number that limits give to a value that the type has without them, by its canonical text. */
-static uint32_t limited_number(const struct anafzir_limits *l, const char *text)
+uint32_t limited_number(const struct anafzir_limits *l, const char *text)
 {
     const char *time = time_in(text);
     if (l->counts != 0 || (l->years != 0 && !has_date(text)) || (l->no_hour_24 != 0 && time == NULL))
@@ -234,14 +235,6 @@ static uint32_t bits_behind(const char *time)
     return difference + 9 + (fraction < 1ul << 15 ? 16 : fraction < 1ul << 23 ? 24 : 32);
 }
 
-static void put_bits(uint8_t *octets, size_t place, int count, unsigned number)
-{
-    for (int i = count - 1; i >= 0; i--, place++) {
-        unsigned shift = 7 - place % 8;
-        octets[place / 8] = (uint8_t)((octets[place / 8] & ~(1u << shift)) | (number >> i & 1) << shift);
-    }
-}
-
 /* Puts second 60 of a minute in place of a value's time: in its text, and in the 17 bits of PER or the contents of DER, which
  * have no colons and end in the time under a name's tag. */
 static void put_second_60(struct timed *v, enum work work, int minute)
@@ -254,7 +247,7 @@ static void put_second_60(struct timed *v, enum work work, int minute)
             v->octets[v->octets[0] == 0x0E ? 2 + v->place + i + i / 2 : v->length - 6 + i] = digits[i];
     }
     if (in_per(work))
-        put_bits(v->octets, v->bits - bits_behind(time) - 17, 17, (unsigned)(minute / 60 << 12 | minute % 60 << 6 | 60));
+        put_bits(v->octets, v->bits - bits_behind(time) - 17, 17, (uint32_t)(minute / 60 << 12 | minute % 60 << 6 | 60));
 }
 
 /* Second 60 of a minute in place of a value's time: its text and its octets have the number of the limits where it exists, and 4
@@ -301,6 +294,28 @@ static void check_seconds(const struct question *q, const struct answer *result,
         check_second_60(q, v, (minutes[i] + DAY) % DAY);
 }
 
+/* Whether each of a type's lists, which are well-formed, has what a limit speaks of. */
+static int limits_have_place(const struct question *q)
+{
+    int dates = 0, times = 0, lists = 1;
+    for (size_t i = 0; i + 5 < q->type_length; i++) {
+        dates += memcmp(q->type + i, "Year=", 5) == 0;
+        times += memcmp(q->type + i, "Time=", 5) == 0;
+        lists += q->type[i] == '|';
+    }
+    const struct anafzir_limits *l = &q->limits;
+    return l->counts == 0 && (l->years == 0 || dates == lists) && (l->no_hour_24 == 0 || times == lists);
+}
+
+/* The answer without limits has the number that is known. */
+static void check_known(const struct question *q, const struct answer *a)
+{
+    if (q->known == 0)
+        must(a->outcome.number == 0, "a good input is taken");
+    else if (q->known != UNKNOWN)
+        must(a->outcome.number == q->known, q->known == 1 ? "a type that is none is 1" : "lists that make no row are 2");
+}
+
 /* Limits take away the values that they say, and change nothing else. */
 static void check_limits(const struct question *q, const struct answer *full)
 {
@@ -310,26 +325,29 @@ static void check_limits(const struct question *q, const struct answer *full)
     free.limits = NO_LIMITS;
     next_step("the question without limits");
     ask_other(&free, q->work, q->input, q->input_length, &a);
-    must(!q->good || a.outcome.number == 0, "a good input is taken");
+    check_known(q, &a);
     uint32_t number = full->outcome.number, without = a.outcome.number;
     if (without != 0) {
         must(number == without || number == 1 || (number == 5 && without == 6), "limits change a refusal to 1, or 6 to 5");
+        must(q->known != 2 || (number == 1) == !limits_have_place(q), "a limit without its place in some list is 1, before 2");
         return;
     }
     text_of(&free, &a, text);
     must(number == limited_number(&q->limits, text), "limits have the number that they say");
     must(number != 0 || same(full, &a), "what limits leave has the same answer");
     check_seconds(q, &a, text);
+    check_years(q, &a, text);
 }
 
 static void check_without_limits(const struct question *q, const struct answer *full)
 {
     char text[ANAFZIR_ROOM + 1];
-    must(!q->good || full->outcome.number == 0, "a good input is taken");
+    check_known(q, full);
     if (full->outcome.number != 0)
         return;
     text_of(q, full, text);
     check_seconds(q, full, text);
+    check_years(q, full, text);
 }
 
 static int has_limits(const struct anafzir_limits *l)
@@ -404,7 +422,7 @@ static enum work read_work(const char *word)
 int check_again(int count, char **words)
 {
     static uint8_t type[LONGEST], input[LONGEST];
-    struct question q = {WORK_COUNT, NO_LIMITS, type, 0, input, 0, 0, 0, 0};
+    struct question q = {WORK_COUNT, NO_LIMITS, type, 0, input, 0, 0, 0, UNKNOWN};
     if (count != 7 || (q.work = read_work(words[0])) == WORK_COUNT || !read_limits(words[1], &q.limits))
         return 0;
     long type_length = unhex(words[2], type), input_length = unhex(words[3], input);
@@ -415,7 +433,7 @@ int check_again(int count, char **words)
     q.input_length = (size_t)input_length;
     q.room_length = room_length;
     q.places = strtoul(words[5], NULL, 10) & EVERY_PLACE;
-    q.good = strcmp(words[6], "1") == 0;
+    q.known = (uint32_t)strtoul(words[6], NULL, 10);
     printf("%" PRIu32 "\n", check(&q));
     return 1;
 }

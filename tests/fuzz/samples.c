@@ -7,24 +7,44 @@
 static const char *const NAMES[NAME_COUNT] = {"DATE", "TIME-OF-DAY", "DATE-TIME", "DURATION"};
 static const char *const BASICS[] = {"Date", "Time", "Date-Time", "Interval"};
 static const char *const DATES[] = {"Y", "YM", "YMD", "YD", "YW", "YWD"};
-static const char *const YEARS[] = {"Basic", "Proleptic", "Negative", "L5"};
 static const char *const TIMES[] = {"H", "HM", "HMS"};
 static const char *const ZONES[] = {"L", "Z", "LD"};
 
-/* The Years of one list, and of a second one or none, by `years` of the settings. */
-static const int YEARS_OF[8][2] = {{0, -1}, {1, -1}, {2, -1}, {3, -1}, {0, 1}, {1, 0}, {2, 3}, {3, 2}};
-
-enum { BASIC, PROLEPTIC, NEGATIVE, L5 };
+/* How many lists a type has, and their Years: each alone, and some that are together. */
+static const struct {
+    int lists, years[MOST_LISTS];
+} YEARS_OF[YEARS_COUNT] = {
+    {1, {BASIC}},
+    {1, {PROLEPTIC}},
+    {1, {NEGATIVE}},
+    {1, {L5}},
+    {1, {L6}},
+    {1, {L7}},
+    {1, {L8}},
+    {1, {L9}},
+    {2, {BASIC, PROLEPTIC}},
+    {2, {PROLEPTIC, BASIC}},
+    {2, {NEGATIVE, L5}},
+    {2, {L9, NEGATIVE}},
+    {3, {L8, L6, L7}},
+    {5, {L5, L6, L7, L8, L9}},
+    {6, {NEGATIVE, L5, L6, L7, L8, L9}},
+    {6, {L8, L6, NEGATIVE, L9, L5, L7}},
+};
 
 /* A longest pair, and the most pairs of a list. */
 enum { PAIR = 32, PAIRS = 5 };
 
 /* Years at the ends of the Years and of the numbers that PER has for them. */
-static const int32_t YEAR_ENDS[4][8] = {
+static const int32_t YEAR_ENDS[YEAR_COUNT][8] = {
     {1582, 9999, 2005, 2020, 2021, 2276, 1749, 2004},
     {0, 1581, 4, 100, 127, 128, 255, 256},
     {-9999, -1, -4, -128, -129, -400, -100, -8},
     {10000, 99999, -10000, -99999, 32767, 32768, -32768, -32769},
+    {100000, 999999, -100000, -999999, 131072, -131072, 400000, -100100},
+    {1000000, 9999999, -1000000, -9999999, 8388607, 8388608, -8388608, -8388609},
+    {10000000, 99999999, -10000000, -99999999, 16777215, 16777216, -16777216, -16777217},
+    {100000000, 999999999, -100000000, -999999999, 536870911, 536870912, -536870912, 999999600},
 };
 
 static const uint32_t NUMBER_ENDS[] = {
@@ -83,8 +103,9 @@ static void add_number(struct text *t, int digits, uint32_t number)
 
 static void set_date(struct settings *t, int number)
 {
-    t->date = number / 8;
-    t->years = number % 8;
+    t->date = number / YEARS_COUNT;
+    t->lists = YEARS_OF[number % YEARS_COUNT].lists;
+    memcpy(t->years, YEARS_OF[number % YEARS_COUNT].years, sizeof t->years);
 }
 
 static void set_time(struct settings *t, int number)
@@ -96,24 +117,24 @@ static void set_time(struct settings *t, int number)
 
 static struct settings settings_of_name(int number)
 {
-    struct settings t = {(enum basic)number, 1, 2, 0, 2, 0, 0, 0};
+    struct settings t = {(enum basic)number, 1, 2, {BASIC}, 1, 2, 0, 0, 0};
     return t;
 }
 
 struct settings settings_at(int number)
 {
-    struct settings t = {INTERVAL, 0, 0, 0, 0, 0, 0, 0};
+    struct settings t = {INTERVAL, 0, 0, {BASIC}, 1, 0, 0, 0, 0};
     if (number < NAME_COUNT)
         return settings_of_name(number);
     number -= NAME_COUNT;
-    if (number < DATE_COUNT) {
-        t.basic = DATE;
-        set_date(&t, number);
-    } else if (number < DATE_COUNT + TIME_COUNT) {
+    if (number < TIME_COUNT) {
         t.basic = TIME;
-        set_time(&t, number - DATE_COUNT);
-    } else if (number > DATE_COUNT + TIME_COUNT) {
-        number -= DATE_COUNT + TIME_COUNT + 1;
+        set_time(&t, number);
+    } else if (number < TIME_COUNT + DATE_COUNT) {
+        t.basic = DATE;
+        set_date(&t, number - TIME_COUNT);
+    } else if (number > TIME_COUNT + DATE_COUNT) {
+        number -= TIME_COUNT + DATE_COUNT + 1;
         t.basic = DATE_TIME;
         set_date(&t, number % DATE_COUNT);
         set_time(&t, number / DATE_COUNT);
@@ -121,18 +142,60 @@ struct settings settings_at(int number)
     return t;
 }
 
+/* The number of a type of dates that has one list, the first ones of which are the Years alone. */
+static int date_of_list(int number)
+{
+    return number / YEAR_COUNT * YEARS_COUNT + number % YEAR_COUNT;
+}
+
+struct settings list_at(int number)
+{
+    if (number < DATE_LISTS)
+        return settings_at(NAME_COUNT + TIME_COUNT + date_of_list(number));
+    if (number < FEW_LISTS - 1)
+        return settings_at(NAME_COUNT + number - DATE_LISTS);
+    if (number == FEW_LISTS - 1)
+        return settings_at(FEW_TYPES - 1);
+    number -= FEW_LISTS;
+    return settings_at(FEW_TYPES + number / DATE_LISTS * DATE_COUNT + date_of_list(number % DATE_LISTS));
+}
+
+void any_years(struct source *s, struct settings *t)
+{
+    int left[MOST_LISTS], plain = below(s, 2) == 0, count = plain ? 2 : MOST_LISTS;
+    for (int i = 0; i < count; i++)
+        left[i] = (plain ? BASIC : NEGATIVE) + i;
+    t->lists = below(s, 2) == 0 ? 1 : 1 + (int)below(s, (uint32_t)count);
+    for (int i = 0; i < t->lists; i++) {
+        uint32_t chosen = below(s, (uint32_t)(count - i));
+        t->years[i] = left[chosen];
+        left[chosen] = left[count - i - 1];
+    }
+}
+
 struct settings any_settings(struct source *s)
 {
     uint32_t kind = below(s, 8);
     if (kind < 2)
         return settings_of_name((int)below(s, NAME_COUNT));
-    struct settings t = {(enum basic)(kind - 2), 0, 0, 0, 0, 0, 0, 0};
+    struct settings t = {(enum basic)(kind - 2), 0, 0, {BASIC}, 1, 0, 0, 0, 0};
     if (kind > 5)
         t.basic = kind == 6 ? DATE_TIME : INTERVAL;
-    set_date(&t, (int)below(s, DATE_COUNT));
+    t.date = (int)below(s, 6);
+    any_years(s, &t);
     set_time(&t, (int)below(s, TIME_COUNT));
     t.order = below(s, 120);
     return t;
+}
+
+static int has_date(const struct settings *t)
+{
+    return t->basic == DATE || t->basic == DATE_TIME;
+}
+
+static int has_time(const struct settings *t)
+{
+    return t->basic == TIME || t->basic == DATE_TIME;
 }
 
 /* The pairs of a list, in the usual order. How many there are. */
@@ -140,11 +203,11 @@ static size_t make_pairs(const struct settings *t, int year, char pairs[PAIRS][P
 {
     size_t count = 0;
     snprintf(pairs[count++], PAIR, "Basic=%s", BASICS[t->basic]);
-    if (t->basic == DATE || t->basic == DATE_TIME) {
+    if (has_date(t)) {
         snprintf(pairs[count++], PAIR, "Date=%s", DATES[t->date]);
-        snprintf(pairs[count++], PAIR, "Year=%s", YEARS[year]);
+        snprintf(pairs[count++], PAIR, "Year=%s", YEAR_WORDS[year]);
     }
-    if (t->basic == TIME || t->basic == DATE_TIME) {
+    if (has_time(t)) {
         if (t->digits == 0)
             snprintf(pairs[count++], PAIR, "Time=%s", TIMES[t->time]);
         else
@@ -172,24 +235,65 @@ static void add_list(const struct settings *t, int year, struct text *out)
 
 void put_type(const struct settings *t, struct text *out)
 {
-    const int *years = YEARS_OF[t->years];
-    int dated = t->basic == DATE || t->basic == DATE_TIME;
     out->length = 0;
     if (t->named) {
         add_text(out, NAMES[t->basic]);
         return;
     }
-    add_list(t, years[0], out);
-    if (!dated || years[1] < 0)
-        return;
-    add_text(out, "|");
-    add_list(t, years[1], out);
+    add_list(t, t->years[0], out);
+    for (int i = 1; i < (has_date(t) ? t->lists : 1); i++) {
+        add_text(out, "|");
+        add_list(t, t->years[i], out);
+    }
+}
+
+void put_lists(const struct settings *lists, size_t count, struct text *out)
+{
+    out->length = 0;
+    for (size_t i = 0; i < count; i++) {
+        add_text(out, i > 0 ? "|" : "");
+        if (lists[i].named)
+            add_text(out, NAMES[lists[i].basic]);
+        else
+            add_list(lists + i, lists[i].years[0], out);
+    }
+}
+
+/* Whether two lists differ in nothing but Year. */
+static int differ_in_year(const struct settings *a, const struct settings *b)
+{
+    if (a->basic != b->basic || (has_date(a) && a->date != b->date))
+        return 0;
+    return !has_time(a) || (a->time == b->time && a->digits == b->digits && a->zone == b->zone);
+}
+
+/* Whether a list can be read, beside others or alone. */
+static int is_list(const struct settings *t, int alone)
+{
+    return t->named ? alone : !has_date(t) || t->years[0] < YEAR_COUNT;
+}
+
+uint32_t number_of_lists(const struct settings *lists, size_t count)
+{
+    uint32_t number = count > MOST_LISTS ? 1 : 0;
+    for (size_t i = 0; i < count; i++) {
+        if (!is_list(lists + i, count == 1))
+            number = 1;
+        for (size_t j = 0; j < i; j++) {
+            int alike = differ_in_year(lists + i, lists + j), first = lists[i].years[0], second = lists[j].years[0];
+            if (alike && (!has_date(lists + i) || first == second))
+                number = 1;
+            else if (number == 0 && (!alike || (first < NEGATIVE) != (second < NEGATIVE)))
+                number = 2;
+        }
+    }
+    return number;
 }
 
 /* The rules repeat after 400 years, so that a year is looked at between 0 and 399. */
 static uint32_t in_cycle(int32_t year)
 {
-    return (uint32_t)(year + 100000) % 400;
+    return (uint32_t)((year % 400 + 400) % 400);
 }
 
 static int is_leap(int32_t year)
@@ -217,6 +321,14 @@ static uint32_t week_count(int32_t year)
     return last_weekday(year) == 4 || last_weekday(year - 1) == 3 ? 53 : 52;
 }
 
+static uint32_t ten_to_the(int digits)
+{
+    uint32_t power = 1;
+    for (int i = 0; i < digits; i++)
+        power *= 10;
+    return power;
+}
+
 static int32_t any_year(struct source *s, int setting)
 {
     if (below(s, 4) == 0)
@@ -227,15 +339,9 @@ static int32_t any_year(struct source *s, int setting)
         return (int32_t)below(s, 1582);
     if (setting == NEGATIVE)
         return -1 - (int32_t)below(s, 9999);
-    int32_t year = 10000 + (int32_t)below(s, 90000);
+    uint32_t lowest = ten_to_the(4 + setting - L5);
+    int32_t year = (int32_t)(lowest + below(s, 9 * lowest));
     return below(s, 2) == 0 ? year : -year;
-}
-
-static void add_year(struct text *out, int32_t year)
-{
-    int long_year = year < -9999 || 9999 < year;
-    add_text(out, year < 0 ? "-" : long_year ? "+" : "");
-    add_number(out, long_year ? 5 : 4, (uint32_t)(year < 0 ? -year : year));
 }
 
 static void add_week(struct text *out, struct source *s, int32_t year)
@@ -265,10 +371,10 @@ static void add_ordinal_day(struct text *out, struct source *s, int32_t year)
 
 static void add_date(const struct settings *t, struct source *s, struct text *out)
 {
-    const int *years = YEARS_OF[t->years];
-    int second = years[1] >= 0 && below(s, 2) == 1;
-    int32_t year = any_year(s, years[second]);
-    add_year(out, year);
+    char text[YEAR_TEXT];
+    int32_t year = any_year(s, t->years[below(s, (uint32_t)t->lists)]);
+    put_year_text(text, year);
+    add_text(out, text);
     switch (t->date) {
     case 1:
     case 2:
@@ -288,14 +394,6 @@ static void add_date(const struct settings *t, struct source *s, struct text *ou
     default:
         break;
     }
-}
-
-static uint32_t ten_to_the(int digits)
-{
-    uint32_t power = 1;
-    for (int i = 0; i < digits; i++)
-        power *= 10;
-    return power;
 }
 
 /* A number of at most so many digits. */
@@ -424,11 +522,11 @@ void put_value(const struct settings *t, struct source *s, struct text *out)
     out->length = 0;
     if (t->basic == INTERVAL)
         add_duration(s, out);
-    if (t->basic == DATE || t->basic == DATE_TIME)
+    if (has_date(t))
         add_date(t, s, out);
     if (t->basic == DATE_TIME)
         add_text(out, "T");
-    if (t->basic == TIME || t->basic == DATE_TIME)
+    if (has_time(t))
         add_time(t, s, out);
 }
 
@@ -496,7 +594,7 @@ void damage(struct source *s, struct text *t)
         exchange(t, place, below(s, (uint32_t)t->length));
         break;
     case 4:
-        t->octets[place] = (uint8_t)octet;
+        t->octets[place] = t->octets[place] == '.' ? ',' : (uint8_t)octet;
         break;
     case 5:
         remove_octet(t, place);

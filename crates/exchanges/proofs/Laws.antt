@@ -7,3 +7,4 @@ pub mod CheckedTables
 pub mod Checked
 pub mod CheckedDurations
 pub mod CheckedLeaps
+pub mod CheckedYears

@@ -1,15 +1,11 @@
 -- What a type holds. Years are astronomical years, and ranges have both their ends.
 use mathlib.Core.Bool.{Bool, true, not, _&&_, _||_}
 use lib.Dec.{eqb}
-use lib.IntN.{ℤ, pos, negsuc}
-use lib.Signed.{leZ}
+use lib.IntN.{ℤ}
 use Rattle.calendar.specs.Years.{astronomicalOf}
 use Rattle.calendar.specs.declared.dates.Date.{Date}
 use Rattle.texts.specs.declared.values.Time.{Time}
 use Rattle.texts.specs.declared.values.Value.{Value}
-use Rattle.types.specs.declared.types.PlainYears.{PlainYears}
-use Rattle.types.specs.declared.types.SignedYears.{SignedYears}
-use Rattle.types.specs.declared.types.Years.{Years}
 use Rattle.types.specs.declared.types.Window.{Window}
 use Rattle.types.specs.declared.types.DateType.{DateType}
 use Rattle.types.specs.declared.types.TimeType.{TimeType}
@@ -17,41 +13,9 @@ use Rattle.types.specs.declared.types.Parts.{Parts}
 use Rattle.types.specs.declared.types.«Type».{«Type» as Ty}
 use Rattle.texts.specs.Forms.{yearOf, valueForm}
 use Rattle.types.specs.Types.{formOf, partsOf}
+use Rattle.types.specs.Years.{between, inYears}
 use Rattle.held_values.specs.Forms.{sameForm}
 use Rattle.held_values.specs.Existence.{hoursOf, existsValue}
-
--- A year from the lowest to the highest.
-unfoldable pub between : ℤ → ℤ → ℤ → Bool
-between lowest highest y = leZ lowest y && leZ y highest
-
--- "`Year`: Basic (1582 to 9999)"
-abbrev pub inBasic : ℤ → Bool
-inBasic y = between (pos 1582) (pos 9999) y
-
--- "Proleptic (0000 to 1581)"
-abbrev pub inProleptic : ℤ → Bool
-inProleptic y = between (pos 0) (pos 1581) y
-
--- "Negative (-9999 to -0001)"; `negsuc k` is -(k + 1).
-abbrev pub inNegative : ℤ → Bool
-inNegative y = between (negsuc 9998) (negsuc 0) y
-
--- "L5 (five digits after a sign, first digit not 0)"
-abbrev pub inFive : ℤ → Bool
-inFive y = between (negsuc 99998) (negsuc 9999) y || between (pos 10000) (pos 99999) y
-
--- "each year is of a Year setting that the type names": one of the row without a sign.
-abbrev pub inPlain : PlainYears → ℤ → Bool
-inPlain names y = names .basic && inBasic y || names .proleptic && inProleptic y
-
--- "each year is of a Year setting that the type names": one of the row with a sign.
-abbrev pub inSigned : SignedYears → ℤ → Bool
-inSigned names y = names .negative && inNegative y || names .five && inFive y
-
--- The settings are those of one row, "Basic with Proleptic or Negative with L5".
-abbrev pub inYears : Years → ℤ → Bool
-inYears (Years.Plain names) y = inPlain names y
-inYears (Years.Signed names) y = inSigned names y
 
 -- "a lowest and a highest year"
 abbrev pub inWindow : Window → ℤ → Bool

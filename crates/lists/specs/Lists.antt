@@ -92,3 +92,7 @@ completed s = cond (complete s) s refusedList
 -- The list that a text is.
 unfoldable pub listOf : List ℕ → Settings
 listOf l = completed (addPairs (settings noneYet) (splitOn 32 l))
+
+-- "A type may be up to six lists" (#103).
+abbrev pub mostLists : ℕ
+mostLists = 6

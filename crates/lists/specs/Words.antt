@@ -3,10 +3,11 @@ use Prim.Native.Nat.{ℕ, suc, _+_, _-_, _*_}
 use Prim.Native.String.{String}
 use mathlib.Core.Path.{_≡_}
 use mathlib.Core.Bool.{_&&_, cond}
-use mathlib.Core.List.{List, [], _∷_, _++_}
+use mathlib.Core.List.{List, [], _∷_, _++_, map}
 use lib.Dec.{eqb, leb}
 use lib.ListN.{length, getD, take}
 use Rattle.octets.specs.Octets.{bytes, eqList}
+use Rattle.types.specs.Years.{yearSettings, yearWord}
 use Rattle.lists.specs.declared.words.Pair.{Pair}
 
 -- The place of a text among words that are counted from k, or 0 where it is none of them.
@@ -43,9 +44,9 @@ basicWords = "Basic=Date" ∷ "Basic=Time" ∷ "Basic=Date-Time" ∷ "Basic=Inte
 abbrev pub dateWords : List String
 dateWords = "Date=Y" ∷ "Date=YM" ∷ "Date=YMD" ∷ "Date=YD" ∷ "Date=YW" ∷ "Date=YWD" ∷ []
 
--- "`Year`: Basic, Proleptic, Negative, L5."
+-- "`Year`: Basic, Proleptic, Negative, L5", and "L6 to L9" (#103), each at its number.
 abbrev pub yearWords : List String
-yearWords = "Year=Basic" ∷ "Year=Proleptic" ∷ "Year=Negative" ∷ "Year=L5" ∷ []
+yearWords = map yearWord yearSettings
 
 -- "`Time`: H, HM, HMS, HFn, HMFn, HMSFn, with n from 1 to 9."
 abbrev pub clockWords : List String

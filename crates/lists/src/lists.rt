@@ -25,7 +25,7 @@ const NONE_YET: Settings = Settings {
     numbers: [0, 0, 0, 0, 0, 0],
 };
 
-const REFUSED: Settings = Settings {
+pub(crate) const REFUSED: Settings = Settings {
     readable: false,
     numbers: [0, 0, 0, 0, 0, 0],
 };

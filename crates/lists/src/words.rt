@@ -21,7 +21,8 @@ const BASIC_WORDS: [u8; 53] = *b"\x0ABasic=Date\x0ABasic=Time\x0FBasic=Date-Time
 const DATE_WORDS: [u8; 49] =
     *b"\x06Date=Y\x07Date=YM\x08Date=YMD\x07Date=YD\x07Date=YW\x08Date=YWD";
 
-const YEAR_WORDS: [u8; 48] = *b"\x0AYear=Basic\x0EYear=Proleptic\x0DYear=Negative\x07Year=L5";
+const YEAR_WORDS: [u8; 80] =
+    *b"\x0AYear=Basic\x0EYear=Proleptic\x0DYear=Negative\x07Year=L5\x07Year=L6\x07Year=L7\x07Year=L8\x07Year=L9";
 
 const CLOCK_WORDS: [u8; 24] = *b"\x06Time=H\x07Time=HM\x08Time=HMS";
 
@@ -122,7 +123,7 @@ pub fn read_pair(s: &[u8]) -> Pair
         return pair_or_none(DATE, place_in(&DATE_WORDS, 6, &*s));
     }
     if first == b'Y' {
-        return pair_or_none(YEAR, place_in(&YEAR_WORDS, 4, &*s));
+        return pair_or_none(YEAR, place_in(&YEAR_WORDS, 8, &*s));
     }
     if first == b'T' {
         return pair_or_none(TIME, time_word(&*s));

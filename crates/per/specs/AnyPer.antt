@@ -13,7 +13,7 @@ use Rattle.durations.specs.Readings.{durationInOctets}
 use Rattle.rows.specs.Fields as Rows
 use Rattle.rows.specs.Fields.{yearRowOfType}
 use Rattle.rows.specs.Readings as RowReadings
-use Rattle.rows.specs.declared.YearRow.{YearRow}
+use Rattle.types.specs.declared.years.YearRow.{YearRow}
 use Rattle.kinds.specs.Coding.{decoded, encoded}
 use Rattle.kinds.specs.Kinds.{Encoding, Kind}
 use Rattle.any_values.specs.Encodings.{encodedBy}

@@ -11,7 +11,7 @@ use Rattle.fields.specs.Bits.{octetsOf}
 use Rattle.fields.specs.Fields.{layout, bitCount}
 use Rattle.rows.specs.Fields.{yearRowOf, fieldsOf}
 use Rattle.rows.specs.Readings.{readOctets}
-use Rattle.rows.specs.declared.YearRow.{YearRow}
+use Rattle.types.specs.declared.years.YearRow.{YearRow}
 use Rattle.kinds.specs.Kinds.{Encoding, Kind}
 use Rattle.kinds.specs.Coding.{encoded, decoded}
 use Rattle.held_values.specs.Encodings.{encodedBy}

@@ -1,7 +1,7 @@
 ghost use mathlib.Core.Path.{_≡_};
 ghost use Rattle.answers.specs.Outcomes.{done, outcomeOf, roomOf};
 ghost use Rattle.kinds.specs.Coding.{compared};
-ghost use Rattle.rows.specs.Fields.{yearRowOf, yearRowOfParts, yearsRow};
+ghost use Rattle.rows.specs.Fields.{yearRowOf, yearRowOfParts};
 ghost use Rattle.held_values.specs.Existence.{existsValue};
 ghost use mathlib.Core.Bool.{true};
 ghost use Rattle.per.specs.Per.{per as perKind, encodingOf, countOf, perEncoded, perDecoded};
@@ -10,11 +10,10 @@ use answers::Refusal;
 use answers::deliver;
 use octets::same;
 use packing::pack;
-use rows::YearRow;
 use texts::Value;
 use types::Parts;
 use types::Type;
-use types::Years;
+use types::YearRow;
 use unpacking::ValueRead;
 use unpacking::unpack;
 use values::Admission;
@@ -23,16 +22,6 @@ use values::admit;
 use values::deliver_text;
 use values::judge;
 
-// How the row of these years has them.
-fn years_row(years: Years) -> YearRow
-    ensures { λ r. ⌜ r ≡ yearsRow years ⌝ }
-{
-    match years {
-        Years::Plain(_) => YearRow::Year,
-        Years::Signed(_) => YearRow::AnyYear,
-    }
-}
-
 // How the row of these settings has its years.
 fn parts_row(parts: Parts) -> YearRow
     ensures { λ r. ⌜ r ≡ yearRowOfParts parts ⌝ }
@@ -40,12 +29,12 @@ fn parts_row(parts: Parts) -> YearRow
     match parts {
         Parts::Date(date) => {
             let years = date.years;
-            years_row(years)
+            years.row()
         }
         Parts::Time(_) => YearRow::Year,
         Parts::DateTime(date, _) => {
             let years = date.years;
-            years_row(years)
+            years.row()
         }
     }
 }

@@ -4,7 +4,7 @@ ghost use mathlib.Core.Path.{_≡_};
 ghost use mathlib.Core.Bool.{true};
 ghost use Rattle.answers.specs.Outcomes.{done, outcomeOf, roomOf};
 ghost use Rattle.kinds.specs.Coding.{compared};
-ghost use Rattle.rows.specs.declared.YearRow.{YearRow};
+ghost use Rattle.types.specs.declared.years.YearRow.{YearRow};
 ghost use Rattle.types.specs.declared.types.AnyType.{AnyType};
 ghost use Rattle.durations.specs.Durations.{existsDuration};
 ghost use Rattle.durations.specs.Texts.{durationText};

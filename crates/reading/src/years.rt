@@ -14,7 +14,7 @@ use calendar::Year;
 use texts::has_digits;
 
 // The most digits of a year that is read.
-const LONGEST: usize = 5;
+const LONGEST: usize = 9;
 
 // Whether so many digits that give a number are a year's after a sign.
 fn signed_fits(below: bool, width: usize, number: u32) -> bool

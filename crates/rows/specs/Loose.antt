@@ -16,7 +16,7 @@ use Rattle.fields.specs.Fields.{Field}
 use Rattle.fields.specs.Spelled.{SpelledField, spelledFields, wellSpelled, spelledBits}
 use Rattle.rows.specs.Fields.{otherYear, yearFields, dayFields, clockFields, longFraction, fractionFields, zoneFields}
 use Rattle.rows.specs.Ranges.{carried}
-use Rattle.rows.specs.declared.YearRow.{YearRow}
+use Rattle.types.specs.declared.years.YearRow.{YearRow}
 
 -- The fields of a year, or choice 3 (remainder) for any year.
 unfoldable pub looseYear : Bool → YearRow → ℤ → List Field

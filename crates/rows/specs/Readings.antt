@@ -20,7 +20,7 @@ use Rattle.texts.specs.declared.values.Value.{Value}
 use Rattle.texts.specs.declared.values.Zone.{Zone}
 use Rattle.fields.specs.Bits.{unpacked}
 use Rattle.fields.specs.Readings.{Reading, give, _>>=_, aRanged, aFree, aNatural, require, run}
-use Rattle.rows.specs.declared.YearRow.{YearRow}
+use Rattle.types.specs.declared.years.YearRow.{YearRow}
 
 -- The year after its two choice bits: immediate, near-future, near-past, or remainder, which is "3: other years", of any number.
 unfoldable pub readChoice : ℕ → Reading ℤ

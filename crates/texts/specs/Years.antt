@@ -29,12 +29,12 @@ yearText (negsuc k) = hyphen ∷ putDigits (yearDigits (suc k)) (suc k)
 abbrev pub putYear : Year → List ℕ
 putYear y = yearText (astronomicalOf y)
 
--- The most digits of a year that is read: "a sign and five digits".
+-- The most digits of a year that is read: "a sign with six to nine digits" (#103).
 abbrev pub longestYear : ℕ
-longestYear = 5
+longestYear = 9
 
--- Whether k digits that give n are a year's after a sign: "`-` and four digits not all 0, or a sign and five
--- digits not beginning with 0"; the readers below take the most digits, most, as an argument.
+-- Whether k digits that give n are a year's after a sign: "`-` and four digits not all 0, or a sign and five digits not beginning with 0", or
+-- "a sign with six to nine digits, the first not 0" (#103); the readers below take the most digits, most, as an argument.
 unfoldable pub signedFits : ℕ → Bool → ℕ → ℕ → Bool
 signedFits most below k n =
     cond (leb k 4) (eqb k 4 && (below && ltb 0 n)) (leb k most && leb (10 ^ (k - 1)) n)

@@ -1,11 +1,13 @@
 -- The laws of the texts of types.
 pub mod TypeTexts
+pub mod Walks
 pub mod CheckedTypes
 pub mod Joining
+pub mod Kept
 pub mod Tests
+pub mod ListOrder
 pub mod Written
 pub mod Complete
-pub mod ListOrder
 pub mod WellFormed
 pub mod Words
 pub mod Arranged

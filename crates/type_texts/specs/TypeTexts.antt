@@ -9,9 +9,12 @@ use Rattle.octets.specs.Pieces.{splitOn}
 use Rattle.types.specs.Numbers.{dateAt, clockAt, zoneAt}
 use Rattle.types.specs.AnyTypes.{DURATION, limitedTo}
 use Rattle.types.specs.Types.{listed, unlimitedDate, unlimitedTime, DATE, TIME-OF-DAY, DATE-TIME, placed}
-use Rattle.lists.specs.Lists.{basicIn, dateIn, yearIn, timeIn, zoneIn, intervalIn, datedList, timedList, listOf}
+use Rattle.lists.specs.Lists.{basicIn, dateIn, yearIn, timeIn, zoneIn, intervalIn, datedList, timedList, listOf, mostLists}
 use Rattle.texts.specs.declared.forms.TimeForm.{TimeForm}
-use Rattle.types.specs.declared.types.Years.{Years}
+use Rattle.types.specs.Years.{rowNumber, rowOfYear, yearSettingAt, yearNumber}
+use Rattle.types.specs.declared.years.YearRow.{YearRow}
+use Rattle.types.specs.declared.years.YearSetting.{YearSetting}
+use Rattle.types.specs.declared.years.Years.{Years}
 use Rattle.types.specs.declared.types.Parts.{Parts}
 use Rattle.types.specs.declared.types.AnyType.{AnyType}
 use Rattle.types.specs.declared.types.«Type».{«Type»}
@@ -19,29 +22,25 @@ use Rattle.types.specs.declared.types.Limits.{Limits}
 use Rattle.types.specs.declared.types.TypeRead.{TypeRead}
 use Rattle.lists.specs.declared.lists.Settings.{Settings}
 
--- "A type is one settings list, or two with `|` between them."
-abbrev pub mostLists : ℕ
-mostLists = 2
-
 -- The lists of a text, split at its bars.
 unfoldable pub listsOf : List ℕ → List Settings
 listsOf l = map listOf (splitOn 124 l)
 
--- "Two lists may differ only in Year": whether they have the same settings besides.
+-- "lists that differ only in Year" (#103): whether two have the same settings besides.
 unfoldable pub sameButYear : Settings → Settings → Bool
 sameButYear s t =
     eqb (basicIn s) (basicIn t) && eqb (dateIn s) (dateIn t) && eqb (timeIn s) (timeIn t) && eqb (zoneIn s) (zoneIn t)
     && eqb (intervalIn s) (intervalIn t)
 
--- "only as Basic with Proleptic or Negative with L5; such a pair is one row of Table 2": 1 for the first pair, 2 for the second.
-unfoldable pub yearFamily : ℕ → ℕ
-yearFamily n = cond (leb n 2) 1 2
+-- The row of a list's Year: "Basic with Proleptic", or Negative with L5 to L9 ("all of one row", #103). A list without a date has no Year.
+abbrev pub rowIn : Settings → YearRow
+rowIn s = rowOfYear (yearSettingAt (yearIn s))
 
 -- Two lists of one row.
 unfoldable pub oneRow : Settings → Settings → Bool
-oneRow s t = sameButYear s t && eqb (yearFamily (yearIn s)) (yearFamily (yearIn t))
+oneRow s t = sameButYear s t && eqb (rowNumber (rowIn s)) (rowNumber (rowIn t))
 
--- "A repeated Year in two otherwise equal lists, and two equal lists": the same settings, in whatever order.
+-- "a Year twice in otherwise equal lists" (#103), and two equal lists: the same settings, in whatever order.
 unfoldable pub equalLists : Settings → Settings → Bool
 equalLists s t = sameButYear s t && eqb (yearIn s) (yearIn t)
 
@@ -65,34 +64,41 @@ member n [] = false
 member n (x ∷ l) = eqb x n || member n l
 
 -- The Years that lists of one row name, by their numbers.
-unfoldable pub yearsOf : List ℕ → Years
-yearsOf ys =
-    cond (member 1 ys || member 2 ys)
-    (Years.Plain (record { basic = member 1 ys; proleptic = member 2 ys }))
-    (Years.Signed (record { negative = member 3 ys; five = member 4 ys }))
+unfoldable pub yearsOf : YearRow → List ℕ → Years
+yearsOf YearRow.Year ys =
+    Years.Plain (record { basic = member (yearNumber YearSetting.Basic) ys; proleptic = member (yearNumber YearSetting.Proleptic) ys })
+yearsOf YearRow.AnyYear ys =
+    Years.Signed (record {
+      negative = member (yearNumber YearSetting.Negative) ys;
+      five = member (yearNumber YearSetting.L5) ys;
+      six = member (yearNumber YearSetting.L6) ys;
+      seven = member (yearNumber YearSetting.L7) ys;
+      eight = member (yearNumber YearSetting.L8) ys;
+      nine = member (yearNumber YearSetting.L9) ys;
+    })
 
 -- The form of a time with these settings: of Time, the tens are n and the ones H, HM or HMS.
 unfoldable pub timeAt : ℕ → ℕ → TimeForm
 timeAt t z = record { clock = clockAt (t % 10); digits = t / 10; zone = zoneAt z }
 
--- The type of a point's list, and of the Years of all lists that share its row: the last one of a date-time.
-unfoldable pub pointType : Settings → List ℕ → «Type»
-pointType s ys =
-    cond (eqb (basicIn s) 1) (listed (Parts.Date (unlimitedDate (dateAt (dateIn s)) (yearsOf ys))))
+-- The type of a point's list, with the Years of all lists that share its row: the last one of a date-time.
+unfoldable pub pointType : Settings → Years → «Type»
+pointType s years =
+    cond (eqb (basicIn s) 1) (listed (Parts.Date (unlimitedDate (dateAt (dateIn s)) years)))
     (cond (eqb (basicIn s) 2) (listed (Parts.Time (unlimitedTime (timeAt (timeIn s) (zoneIn s)))))
-    (listed (Parts.DateTime (unlimitedDate (dateAt (dateIn s)) (yearsOf ys)) (unlimitedTime (timeAt (timeIn s) (zoneIn s))))))
+    (listed (Parts.DateTime (unlimitedDate (dateAt (dateIn s)) years) (unlimitedTime (timeAt (timeIn s) (zoneIn s))))))
 
--- The type of a list, and of the Years of all lists that share its row: a point's where it has a date or a time.
-unfoldable pub listType : Settings → List ℕ → AnyType
-listType s ys = cond (datedList s || timedList s) (AnyType.Point (pointType s ys)) AnyType.ListedDuration
+-- The type of a list, with the Years of all lists that share its row: a point's where it has a date or a time.
+unfoldable pub listType : Settings → Years → AnyType
+listType s years = cond (datedList s || timedList s) (AnyType.Point (pointType s years)) AnyType.ListedDuration
 
--- The type of lists. Too many of them, one that is unreadable, one that is repeated, or one in which a limit has no
--- place are 1; "any other difference is 2".
+-- The type of lists. "1 for more than six lists or a Year twice in otherwise equal lists" (#103), for one that is unreadable and for one in which
+-- a limit has no place; "2 for any other difference".
 unfoldable pub joined : Limits → List Settings → TypeRead
 joined limits [] = TypeRead.Unreadable
 joined limits (s ∷ r) =
     cond (leb (length (s ∷ r)) mostLists && allOf (usable limits) (s ∷ r) && distinct (s ∷ r))
-    (cond (allOf (oneRow s) r) (limitedTo limits (listType s (map yearIn (s ∷ r)))) TypeRead.NoRow)
+    (cond (allOf (oneRow s) r) (limitedTo limits (listType s (yearsOf (rowIn s) (map yearIn (s ∷ r))))) TypeRead.NoRow)
     TypeRead.Unreadable
 
 -- The type of a text that names no point's type: DURATION, or what is listed.

@@ -10,7 +10,9 @@ use Rattle.texts.specs.declared.forms.ZoneForm.{ZoneForm}
 use Rattle.texts.specs.declared.forms.TimeForm.{TimeForm}
 use Rattle.types.specs.Types.{listed, partsOf}
 use Rattle.types.specs.declared.types.AnyType.{AnyType}
-use Rattle.types.specs.declared.types.Years.{Years}
+use Rattle.types.specs.Years.{names, yearSettings, yearWord}
+use Rattle.types.specs.declared.years.YearSetting.{YearSetting}
+use Rattle.types.specs.declared.years.Years.{Years}
 use Rattle.types.specs.declared.types.Parts.{Parts}
 
 -- "`Date`: Y, YM, YMD, YD, YW, YWD."
@@ -21,20 +23,6 @@ dateWord DateForm.YMD = bytes "Date=YMD"
 dateWord DateForm.YD = bytes "Date=YD"
 dateWord DateForm.YW = bytes "Date=YW"
 dateWord DateForm.YWD = bytes "Date=YWD"
-
--- "`Year`: Basic, Proleptic, Negative, L5."
-pub data YearSetting : Type 0 where
-  basic : YearSetting
-  proleptic : YearSetting
-  negative : YearSetting
-  five : YearSetting
-
--- The word of a Year setting.
-abbrev pub yearWord : YearSetting → List ℕ
-yearWord basic = bytes "Year=Basic"
-yearWord proleptic = bytes "Year=Proleptic"
-yearWord negative = bytes "Year=Negative"
-yearWord five = bytes "Year=L5"
 
 -- "`Time`: H, HM, HMS", its fraction aside.
 abbrev pub clockWord : ClockForm → List ℕ
@@ -54,7 +42,7 @@ zoneWord ZoneForm.LD = bytes "Local-or-UTC=LD"
 
 -- The pairs of a list with a date.
 abbrev pub datePairs : DateForm → YearSetting → List (List ℕ)
-datePairs f y = bytes "Basic=Date" ∷ dateWord f ∷ yearWord y ∷ []
+datePairs f y = bytes "Basic=Date" ∷ dateWord f ∷ bytes (yearWord y) ∷ []
 
 -- The pairs of a list with a time.
 abbrev pub timePairs : TimeForm → List (List ℕ)
@@ -63,21 +51,20 @@ timePairs t = bytes "Basic=Time" ∷ timeWord (t .clock) (t .digits) ∷ zoneWor
 -- The pairs of a list with a date and a time.
 abbrev pub dateTimePairs : DateForm → TimeForm → YearSetting → List (List ℕ)
 dateTimePairs f t y =
-    bytes "Basic=Date-Time" ∷ dateWord f ∷ yearWord y ∷ timeWord (t .clock) (t .digits) ∷ zoneWord (t .zone) ∷ []
+    bytes "Basic=Date-Time" ∷ dateWord f ∷ bytes (yearWord y) ∷ timeWord (t .clock) (t .digits) ∷ zoneWord (t .zone) ∷ []
 
 -- The pairs of a list of durations.
 abbrev pub durationPairs : List (List ℕ)
 durationPairs = bytes "Basic=Interval" ∷ bytes "Interval-type=D" ∷ []
 
--- One Year more, where it is named.
-abbrev pub andNamed : Bool → YearSetting → List YearSetting → List YearSetting
-andNamed true y l = y ∷ l
-andNamed false y l = l
+-- Those that pass a test.
+unfoldable pub keep : {A : Type 0} → (A → Bool) → List A → List A
+keep p [] = []
+keep p (x ∷ l) = cond (p x) (x ∷ keep p l) (keep p l)
 
 -- The Years that a type names.
 abbrev pub namedYears : Years → List YearSetting
-namedYears (Years.Plain y) = andNamed (y .basic) basic (andNamed (y .proleptic) proleptic [])
-namedYears (Years.Signed y) = andNamed (y .negative) negative (andNamed (y .five) five [])
+namedYears years = keep (names years) yearSettings
 
 -- The pairs of each list of a type.
 abbrev pub listsFor : Parts → List (List (List ℕ))
@@ -111,3 +98,9 @@ typeText wss = joinWith 124 (map (joinWith 32) wss)
 pub data Arranged : List (List (List ℕ)) → List (List (List ℕ)) → Type 0 where
   end : Arranged [] []
   more : {ws vs : List (List ℕ)} {wss vss : List (List (List ℕ))} → List·Permᴰ ws vs → Arranged wss vss → Arranged (ws ∷ wss) (vs ∷ vss)
+
+-- "up to six lists" (#103), the lists in any order too.
+pub record InAnyOrder (wss vss : List (List (List ℕ))) : Type 0 where
+  pub lists : List (List (List ℕ))
+  pub of-lists : List·Permᴰ lists vss
+  pub of-pairs : Arranged wss lists

@@ -4,31 +4,26 @@ use mathlib.Core.Bool.{Bool, _&&_, cond}
 use lib.Dec.{eqb}
 use Rattle.types.specs.Numbers.{dateNumber, clockNumber, zoneNumber}
 use Rattle.types.specs.Types.{partsOf}
+use Rattle.types.specs.Years.{rowNumber, yearsRow}
 use Rattle.texts.specs.declared.forms.TimeForm.{TimeForm}
-use Rattle.types.specs.declared.types.Years.{Years}
 use Rattle.types.specs.declared.types.Parts.{Parts}
 use Rattle.types.specs.declared.types.AnyType.{AnyType}
 use Rattle.types.specs.declared.rows.Row.{Row}
-
--- "either every Year of both is Basic or Proleptic, or none is": 1 where every Year is, 2 where none is.
-abbrev pub familyOf : Years → ℕ
-familyOf (Years.Plain y) = 1
-familyOf (Years.Signed y) = 2
 
 -- "the same Time setting, n aside": H, HM, HMS, and then HF, HMF, HMSF.
 unfoldable pub timeNumber : TimeForm → ℕ
 timeNumber t = cond (eqb (t .digits) 0) (clockNumber (t .clock)) (3 + clockNumber (t .clock))
 
--- What decides the rows, each setting by its number. "What both lack counts as the same": 0 stands for it. "A name
--- counts as its settings, and restrictions don't count": neither is here.
+-- What decides the rows, each setting by its number, and of Years their row: "either every Year of both is Basic or Proleptic, or none is".
+-- "What both lack counts as the same": 0 stands for it. "A name counts as its settings, and restrictions don't count": neither is here.
 abbrev pub rowOf : Parts → Row
-rowOf (Parts.Date d) = record { basic = 1; date = dateNumber (d .form); family = familyOf (d .years); time = 0; zone = 0 }
+rowOf (Parts.Date d) = record { basic = 1; date = dateNumber (d .form); family = rowNumber (yearsRow (d .years)); time = 0; zone = 0 }
 rowOf (Parts.Time t) = record { basic = 2; date = 0; family = 0; time = timeNumber (t .form); zone = zoneNumber (t .form .zone) }
 rowOf (Parts.DateTime d t) =
     record {
       basic = 3;
       date = dateNumber (d .form);
-      family = familyOf (d .years);
+      family = rowNumber (yearsRow (d .years));
       time = timeNumber (t .form);
       zone = zoneNumber (t .form .zone);
     }

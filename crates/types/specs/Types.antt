@@ -9,7 +9,8 @@ use Rattle.texts.specs.declared.forms.ZoneForm.{ZoneForm}
 use Rattle.texts.specs.declared.forms.TimeForm.{TimeForm}
 use Rattle.texts.specs.declared.forms.Form.{Form}
 use Rattle.answers.specs.declared.refusals.Refusal.{Refusal}
-use Rattle.types.specs.declared.types.Years.{Years}
+use Rattle.types.specs.declared.years.Years.{Years}
+use Rattle.types.specs.Years.{someYear}
 use Rattle.types.specs.declared.types.Window.{Window}
 use Rattle.types.specs.declared.types.DateType.{DateType}
 use Rattle.types.specs.declared.types.TimeType.{TimeType}
@@ -122,11 +123,6 @@ abbrev pub limitsOf : Parts → Limits
 limitsOf (Parts.Date d) = record { window = d .window; hour24 = true }
 limitsOf (Parts.Time t) = record { window = Window.Every; hour24 = t .hour24 }
 limitsOf (Parts.DateTime d t) = record { window = d .window; hour24 = t .hour24 }
-
--- `Year` is "present exactly when the value has a date": some Year is named.
-abbrev pub someYear : Years → Bool
-someYear (Years.Plain y) = y .basic || y .proleptic
-someYear (Years.Signed y) = y .negative || y .five
 
 -- "`Time`: .. HFn, HMFn, HMSFn, with n from 1 to 9."
 abbrev pub fewDigits : TimeType → Bool

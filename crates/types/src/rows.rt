@@ -1,11 +1,12 @@
 ghost use mathlib.Core.Path.{_≡_};
-ghost use Rattle.types.specs.Rows.{familyOf, rowOf, rowOfType, sameRow, sameRows, timeNumber};
+ghost use Rattle.types.specs.Years.{rowNumber, yearsRow};
+ghost use Rattle.types.specs.Rows.{rowOf, rowOfType, sameRow, sameRows, timeNumber};
 use crate::numbers::clock_number;
 use crate::numbers::date_number;
 use crate::numbers::zone_number;
 use crate::types::AnyType;
 use crate::types::Parts;
-use crate::types::Years;
+use crate::years::Years;
 use texts::ClockForm;
 use texts::TimeForm;
 
@@ -18,14 +19,11 @@ pub struct Row {
     pub zone: u32,
 }
 
-// 1 for the Years without a sign, 2 for those with one.
+// The number of the row of these Years.
 fn family(years: Years) -> u32
-    ensures { λ r. ⌜ r ≡ familyOf years ⌝ }
+    ensures { λ r. ⌜ r ≡ rowNumber (yearsRow years) ⌝ }
 {
-    match years {
-        Years::Plain(_) => 1,
-        Years::Signed(_) => 2,
-    }
+    years.row().number()
 }
 
 // The number of a Time setting, with or without a fraction, however many its digits.

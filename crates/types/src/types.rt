@@ -5,32 +5,16 @@ ghost use Rattle.types.specs.declared.types.TypeFound.{TypeFound};
 ghost use Rattle.types.specs.AnyTypes as Any;
 ghost use Rattle.types.specs.AnyTypes.{foundType, limitedTo};
 ghost use Rattle.types.specs.Types.{carrying, digitsOfParts, everyYear, formOf, formOfParts, fractionDigits, hasDate, hasTime};
-ghost use Rattle.types.specs.Types.{listed, nameOf, partsOf, placed, restricted, someYear, unlimitedDate, unlimitedTime};
+ghost use Rattle.types.specs.Types.{listed, nameOf, partsOf, placed, restricted, unlimitedDate, unlimitedTime};
 ghost use Rattle.types.specs.Types.{wellFormed, wellParts, withHour24, withWindow};
+use crate::years::PlainYears;
+use crate::years::Years;
 use calendar::Year;
 use texts::ClockForm;
 use texts::DateForm;
 use texts::Form;
 use texts::TimeForm;
 use texts::ZoneForm;
-
-// Which of the Year settings without a sign a type names.
-pub struct PlainYears {
-    pub basic: bool,
-    pub proleptic: bool,
-}
-
-// Which of the Year settings with a sign a type names.
-pub struct SignedYears {
-    pub negative: bool,
-    pub five: bool,
-}
-
-// The Year settings that a type names, of one row.
-pub enum Years {
-    Plain(PlainYears),
-    Signed(SignedYears),
-}
 
 // The lowest and the highest year of a type, where it has them.
 pub enum Window {
@@ -200,16 +184,6 @@ fn restrict(limits: Limits, parts: Parts) -> Parts
     }
 }
 
-// Whether some Year is named.
-fn some_year(years: Years) -> bool
-    ensures { λ r. ⌜ r ≡ someYear years ⌝ }
-{
-    match years {
-        Years::Plain(y) => y.basic || y.proleptic,
-        Years::Signed(y) => y.negative || y.five,
-    }
-}
-
 // Whether some Year is named and a fraction has at most 9 digits.
 fn well_parts(parts: Parts) -> bool
     ensures { λ r. ⌜ r ≡ wellParts parts ⌝ }
@@ -217,12 +191,12 @@ fn well_parts(parts: Parts) -> bool
     match parts {
         Parts::Date(d) => {
             let years = d.years;
-            some_year(years)
+            years.some()
         }
         Parts::Time(t) => time_digits(t) <= 9,
         Parts::DateTime(d, t) => {
             let years = d.years;
-            some_year(years) && time_digits(t) <= 9
+            years.some() && time_digits(t) <= 9
         }
     }
 }
@@ -268,7 +242,7 @@ fn digits_of(parts: Parts) -> u32
 }
 
 // A type of durations, or that it is unreadable where there is any limit.
-fn unlimited(listed: bool, limits: Limits) -> TypeFound
+pub fn unlimited(listed: bool, limits: Limits) -> TypeFound
     ensures { λ r. ⌜ r ≡ cond (placed limits false false) (TypeFound.Duration listed) (TypeFound.NoType false) ⌝ }
 {
     if !has_place(limits, false, false) {

@@ -16,8 +16,8 @@ use crate::numbers::ranged;
 use answers::Bits;
 use calendar::Date;
 use calendar::Year;
-use rows::YearRow;
 use texts::DateForm;
+use types::YearRow;
 
 // A date with the place after it, or nothing.
 pub enum DateStep {

@@ -8,11 +8,11 @@ use crate::dates::date;
 use crate::times::TimeStep;
 use crate::times::time;
 use answers::Bits;
-use rows::YearRow;
 use texts::DateForm;
 use texts::Form;
 use texts::TimeForm;
 use texts::Value;
+use types::YearRow;
 
 // What octets give at a form: a value, or nothing that can be read as one.
 pub enum ValueRead {

@@ -1,14 +1,19 @@
 ghost use mathlib.Core.Path.{_≡_};
 ghost use mathlib.Core.Bool.{_&&_};
+ghost use lib.Dec.{leb, ltb};
+ghost use lib.IntN.{natAbs};
+ghost use Rattle.types.specs.declared.years.Years.{Years};
 ghost use Rattle.calendar.specs.Years.{astronomicalOf};
 ghost use Rattle.texts.specs.Forms.{dateForm, clockForm, valueForm, zoneForm, timeForm};
 ghost use Rattle.types.specs.Numbers.{dateNumber, clockNumber, zoneNumber};
 ghost use Rattle.types.specs.Types.{formOfParts, formOf};
 ghost use Rattle.held_values.specs.Forms.{sameDateForm, sameForm, sameTimeForm};
-ghost use Rattle.held_values.specs.Holding.{between, inFive, inPlain, inSigned, inYears, inWindow, admits, admitsDate, admitsTime, inType, holdsOf};
+ghost use Rattle.types.specs.Years.{between, inYears};
+ghost use Rattle.held_values.specs.Holding.{inWindow, admits, admitsDate, admitsTime, inType, holdsOf};
 use crate::existence::hours;
 use crate::existence::value_exists;
 use calendar::Date;
+use calendar::Distance;
 use calendar::Year;
 use texts::Clock;
 use texts::ClockForm;
@@ -24,12 +29,12 @@ use types::numbers::date_number;
 use types::numbers::zone_number;
 use types::types::DateType;
 use types::types::Parts;
-use types::types::PlainYears;
-use types::types::SignedYears;
 use types::types::TimeType;
 use types::types::Type;
 use types::types::Window;
-use types::types::Years;
+use types::years::PlainYears;
+use types::years::SignedYears;
+use types::years::Years;
 
 // The form of a date.
 fn date_form(date: Date) -> DateForm
@@ -120,23 +125,54 @@ fn named(name: bool, lowest: i32, highest: i32, year: Year) -> bool
 
 // Whether a year is of a Year setting without a sign that the type names.
 fn in_plain(names: PlainYears, year: Year) -> bool
-    ensures { λ r. ⌜ r ≡ inPlain names (astronomicalOf year) ⌝ }
+    ensures { λ r. ⌜ r ≡ inYears (Years.Plain names) (astronomicalOf year) ⌝ }
 {
     named(names.basic, 1582, 9999, year) || named(names.proleptic, 0, 1581, year)
 }
 
-// Whether a year has five digits, where the type names L5.
-fn five_digits(name: bool, year: Year) -> bool
-    ensures { λ r. ⌜ r ≡ name && inFive (astronomicalOf year) ⌝ }
+// How many years a year lies from the year 0000.
+fn size(year: Year) -> u64
+    ensures { λ r. ⌜ r ≡ natAbs (astronomicalOf year) ⌝ }
 {
-    named(name, -99999, -10000, year) || named(name, 10000, 99999, year)
+    let distance = year.distance();
+    match distance {
+        Distance::Since(years) => years,
+        Distance::Before(years) => years,
+    }
+}
+
+// Whether a type names a Year setting with so many digits, and a number has them: from the least number with them up to the
+// least with one more.
+fn of_length(name: bool, least: u64, next: u64, years: u64) -> bool
+    ensures { λ r. ⌜ r ≡ name && (leb least years && ltb years next) ⌝ }
+{
+    if !name {
+        return false;
+    }
+    least <= years && years < next
 }
 
 // Whether a year is of a Year setting with a sign that the type names.
 fn in_signed(names: SignedYears, year: Year) -> bool
-    ensures { λ r. ⌜ r ≡ inSigned names (astronomicalOf year) ⌝ }
+    ensures { λ r. ⌜ r ≡ inYears (Years.Signed names) (astronomicalOf year) ⌝ }
 {
-    named(names.negative, -9999, -1, year) || five_digits(names.five, year)
+    if named(names.negative, -9999, -1, year) {
+        return true;
+    }
+    let years = size(year);
+    if of_length(names.five, 10000, 100000, years) {
+        return true;
+    }
+    if of_length(names.six, 100000, 1000000, years) {
+        return true;
+    }
+    if of_length(names.seven, 1000000, 10000000, years) {
+        return true;
+    }
+    if of_length(names.eight, 10000000, 100000000, years) {
+        return true;
+    }
+    of_length(names.nine, 100000000, 1000000000, years)
 }
 
 // Whether a year is of a Year setting that the type names.

@@ -31,7 +31,9 @@ use Rattle.durations.specs.Texts.{letterP}
 use Rattle.types.specs.Types.{hmsLocal, withWindow, ymdBasic}
 use Rattle.types.specs.declared.types.Name.{Name}
 use Rattle.types.specs.declared.types.Window.{Window}
-use Rattle.held_values.specs.Holding.{admitsDate, between, inBasic}
+use Rattle.held_values.specs.Holding.{admitsDate}
+use Rattle.types.specs.Years.{between, inSetting, inYears}
+use Rattle.types.specs.declared.years.YearSetting.{YearSetting}
 use Rattle.held_values.proofs.Laws.Holding.{date-admitted}
 use Rattle.der_elements.specs.Elements.{contentsOf, element, omits, tagOf, without}
 use Rattle.der_elements.specs.Readings.{allDigits, separated}
@@ -135,14 +137,14 @@ module _ (c w a b d : ℕ) where
 -- ---- dates and times under the three names
 
 -- A year from 1582 to 9999 has four digits.
-basic-year : (y : ℤ) → inBasic y ≡ true → (n : ℕ) × (yearText y ≡ putDigits 4 n)
+basic-year : (y : ℤ) → inSetting YearSetting.Basic y ≡ true → (n : ℕ) × (yearText y ≡ putDigits 4 n)
 unfolding between yearText
 basic-year (pos n) e = (n, simp (lt-ltb n 10000 (omega (arith, leb-true n 9999 (both (leb 1582 n) (leb n 9999) e .1)))))
 basic-year (negsuc k) e = absurd (false≢true e)
 
 pub date-fields : (w : Window) (d : Date) → dateForm d ≡ DateForm.YMD → admitsDate (withWindow w ymdBasic) d ≡ true
     → (n m k : ℕ) × (putDate d ≡ fieldsText hyphen 4 n m k)
-unfolding putDate putAfter
+unfolding putDate putAfter inYears
 date-fields w (Date.YMD y m k) f e =
     let q = basic-year (astronomicalOf y) (rw or-false at (date-admitted (withWindow w ymdBasic) (Date.YMD y m k) e .0)) in (q .0, m, k, rw (q .1))
 date-fields w (Date.Y y) f e = absurd (let z : _≡_ {A = ℕ} 0 1 = cc in omega arith)

@@ -20,7 +20,7 @@ use Rattle.lists.specs.Words.{fractionNumber, pairOf, placeFrom}
 use Rattle.types.specs.Numbers.{clockAt, dateAt, zoneAt}
 use Rattle.type_texts.proofs.Laws.CheckedTypes.{bothLimits, from2000, noHour24, noYears}
 use Rattle.type_texts.specs.TypeTexts.{allOf, distinct, equalLists, joined, listType, pointType, listsOf, member, oneRow, sameButYear, timeAt, typeOf, usable}
-use Rattle.type_texts.specs.TypeTexts.{yearFamily, yearsOf}
+use Rattle.type_texts.specs.TypeTexts.{yearsOf}
 use Rattle.types.specs.AnyTypes.{limitedTo}
 use Rattle.types.specs.Types.{noLimits, placed, typeNumber}
 use Rattle.types.specs.declared.types.AnyType.{AnyType}
@@ -40,7 +40,8 @@ use Rattle.durations.specs.Texts.{numberDigits, putDuration, putNumber, putPart
 use Rattle.held_values.specs.Admission.{admissionNumber, admitted, judged}
 use Rattle.held_values.specs.Existence.{existsClock, existsDifference, existsFraction, existsLeap, existsTime, lessDifference}
 use Rattle.held_values.specs.Forms.{sameDateForm, sameTimeForm}
-use Rattle.held_values.specs.Holding.{admitsDate, admitsTime, between, holdsOf, inType}
+use Rattle.held_values.specs.Holding.{admitsDate, admitsTime, holdsOf, inType}
+use Rattle.types.specs.Years.{between, inLong, inYears, someYear, yearSettingAt}
 use Rattle.held_values.specs.declared.admission.Admission.{Admission}
 
 data Row : Type 0 where
@@ -82,7 +83,8 @@ rows =
     row "Basic=Date Date=Y Year=L5" "+32767" 0 "+32767" ∷
     row "Basic=Date Date=Y Year=L5" "-99999" 0 "-99999" ∷
     row "Basic=Date Date=Y Year=L5" "+02006" 3 "" ∷
-    row "Basic=Date Date=Y Year=L5" "+100000" 3 "" ∷
+    row "Basic=Date Date=Y Year=L5" "+100000" 5 "" ∷
+    row "Basic=Date Date=Y Year=L5" "+1000000000" 3 "" ∷
     row "Basic=Date Date=Y Year=Basic|Basic=Date Date=Y Year=Proleptic" "0000" 0 "0000" ∷
     row "Basic=Date Date=Y Year=Basic|Basic=Date Date=Y Year=Proleptic" "9999" 0 "9999" ∷
     row "Basic=Date Date=Y Year=Basic|Basic=Date Date=Y Year=Proleptic" "-0001" 5 "" ∷
@@ -236,23 +238,25 @@ allRight (row s text number canonical ∷ l) = isRight (typeOf noLimits (bytes s
 allRight (under s limits text number canonical ∷ l) = isRight (typeOf limits (bytes s)) (bytes text) number canonical && allRight l
 
 texts-checked : allRight rows ≡ true
-unfolding rows numberIn textAfter textRead textIn isRight allRight upTo quotient remainder divisible monthLengthOf daysOfYears newYear weekOf weekOneOf
-    weeksOf astronomicalOf yearAt leapOf yearLengthOf putAfter putDate getWeek getAfter getDate putDigits getDigits getField leading render getValue readUpTo
-    putClock getAfterHours getClock putFraction getFraction putZone getMinutes getDifference getZone putTime getTime sizeIn yearDigits yearText signedFits
-    getSigned getYear splitOn addPair addPairs datedList timedList complete completed listOf eqList placeFrom fractionNumber pairOf dateAt clockAt zoneAt
-    listsOf sameButYear yearFamily oneRow equalLists allOf distinct usable member yearsOf timeAt listType joined typeOf placed limitedTo judged admitted
-    existsClock pointType existsFraction existsDifference lessDifference existsLeap existsTime sameDateForm sameTimeForm between admitsDate admitsTime inType
-    holdsOf intervalList durationOf shown spellable anyPresent count lastIn numbers ofLast partAt wellMade fractionLength getDuration getEnd getNumber getPart
-    getParts getPresent getTimes needless numberDigits putDuration putNumber putPart putParts putTimes readDuration renderDuration
+unfolding rows numberIn textAfter textRead textIn isRight allRight upTo quotient remainder divisible monthLengthOf daysOfYears newYear weekOf
+    weekOneOf weeksOf astronomicalOf yearAt leapOf yearLengthOf putAfter putDate getWeek getAfter getDate putDigits getDigits getField leading render
+    getValue readUpTo putClock getAfterHours getClock putFraction getFraction putZone getMinutes getDifference getZone putTime getTime sizeIn
+    yearDigits yearText signedFits getSigned getYear splitOn addPair addPairs datedList timedList complete completed listOf eqList placeFrom
+    fractionNumber pairOf dateAt clockAt zoneAt listsOf sameButYear yearSettingAt oneRow equalLists allOf distinct usable member yearsOf timeAt
+    listType joined typeOf placed limitedTo judged admitted existsClock pointType existsFraction existsDifference lessDifference existsLeap existsTime
+    sameDateForm sameTimeForm between inLong inYears someYear admitsDate admitsTime inType holdsOf intervalList durationOf shown spellable anyPresent
+    count lastIn numbers ofLast partAt wellMade fractionLength getDuration getEnd getNumber getPart getParts getPresent getTimes needless numberDigits
+    putDuration putNumber putPart putParts putTimes readDuration renderDuration
 texts-checked = refl
 
 limits-checked : allRight limited ≡ true
-unfolding limited early from1500 numberIn textAfter textRead textIn isRight allRight upTo quotient remainder divisible monthLengthOf daysOfYears newYear
-    weekOf weekOneOf weeksOf astronomicalOf yearAt leapOf yearLengthOf putAfter putDate getWeek getAfter getDate putDigits getDigits getField leading render
-    getValue readUpTo putClock getAfterHours getClock putFraction getFraction putZone getMinutes getDifference getZone putTime getTime sizeIn yearDigits
-    yearText signedFits getSigned getYear splitOn addPair addPairs datedList timedList complete completed listOf eqList placeFrom fractionNumber pairOf dateAt
-    clockAt zoneAt listsOf sameButYear yearFamily oneRow equalLists allOf distinct usable member yearsOf timeAt listType pointType joined typeOf placed
-    limitedTo judged admitted existsClock existsFraction existsDifference lessDifference existsLeap existsTime sameDateForm sameTimeForm between admitsDate
-    admitsTime inType holdsOf intervalList durationOf shown spellable anyPresent count lastIn numbers ofLast partAt wellMade fractionLength getDuration getEnd
-    getNumber getPart getParts getPresent getTimes needless numberDigits putDuration putNumber putPart putParts putTimes readDuration renderDuration
+unfolding limited early from1500 numberIn textAfter textRead textIn isRight allRight upTo quotient remainder divisible monthLengthOf daysOfYears
+    newYear weekOf weekOneOf weeksOf astronomicalOf yearAt leapOf yearLengthOf putAfter putDate getWeek getAfter getDate putDigits getDigits getField
+    leading render getValue readUpTo putClock getAfterHours getClock putFraction getFraction putZone getMinutes getDifference getZone putTime getTime
+    sizeIn yearDigits yearText signedFits getSigned getYear splitOn addPair addPairs datedList timedList complete completed listOf eqList placeFrom
+    fractionNumber pairOf dateAt clockAt zoneAt listsOf sameButYear yearSettingAt oneRow equalLists allOf distinct usable member yearsOf timeAt
+    listType pointType joined typeOf placed limitedTo judged admitted existsClock existsFraction existsDifference lessDifference existsLeap existsTime
+    sameDateForm sameTimeForm between inLong inYears someYear admitsDate admitsTime inType holdsOf intervalList durationOf shown spellable anyPresent
+    count lastIn numbers ofLast partAt wellMade fractionLength getDuration getEnd getNumber getPart getParts getPresent getTimes needless numberDigits
+    putDuration putNumber putPart putParts putTimes readDuration renderDuration
 limits-checked = refl

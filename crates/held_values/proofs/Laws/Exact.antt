@@ -36,12 +36,14 @@ use Rattle.types.specs.declared.types.«Type».{«Type» as Ty}
 use Rattle.held_values.specs.Admission.{admissionNumber, admitted, givenAs, judged, judgedRead, judgementNumber, textNumber}
 use Rattle.held_values.specs.Existence.{existsValue, hoursOf}
 use Rattle.held_values.specs.Forms.{sameForm}
-use Rattle.held_values.specs.Holding.{admits, admitsDate, admitsTime, between, holdsOf, inType, inWindow}
+use Rattle.held_values.specs.Holding.{admits, admitsDate, admitsTime, holdsOf, inType, inWindow}
 use Rattle.held_values.specs.Written.{written}
 use Rattle.held_values.specs.declared.admission.Admission.{Admission}
 use Rattle.held_values.specs.declared.admission.Judgement.{Judgement}
-use Rattle.held_values.proofs.Laws.Holding.{Setting, date-admitted, form-same, held, holds-both, in-type, inSetting, named-year, names, of-form}
-use Rattle.held_values.proofs.Laws.Holding.{same-form, time-admitted, year-named}
+use Rattle.held_values.proofs.Laws.Holding.{date-admitted, form-same, held, holds-both, in-type, of-form, same-form, time-admitted}
+use Rattle.types.specs.Years.{between, inSetting, names}
+use Rattle.types.specs.declared.years.YearSetting.{YearSetting}
+use Rattle.types.proofs.Laws.YearRanges.{named-year, year-named}
 use Rattle.held_values.proofs.Laws.Exists.{ValueExists, exists-value, value-exists}
 use Rattle.held_values.proofs.Laws.Existing.{ShortYear, date-short, exists-fits, held-read}
 
@@ -49,7 +51,7 @@ use Rattle.held_values.proofs.Laws.Existing.{ShortYear, date-short, exi
 
 -- "each year is of a Year setting that the type names", and from the lowest to the highest year, where there are such.
 pub record YearHeld (t : DateType) (y : ℤ) : Type 0 where
-  pub setting : Setting
+  pub setting : YearSetting
   pub named : names (t .years) setting ≡ true
   pub of-setting : inSetting setting y ≡ true
   pub window : (lowest highest : Year) → t .window ≡ Window.Within lowest highest → (astronomicalOf lowest ≤ℤ y) × (y ≤ℤ astronomicalOf highest)

@@ -34,10 +34,11 @@ use Rattle.texts.specs.declared.values.Time.{Time}
 use Rattle.texts.specs.declared.values.Value.{Value}
 use Rattle.texts.specs.declared.values.Zone.{Zone}
 use Rattle.held_values.proofs.Laws.Existence.{ZoneInRange, time-range}
-use Rattle.held_values.proofs.Laws.Holding.{date-admitted, held, holds-both, in-type, years-range}
+use Rattle.held_values.proofs.Laws.Holding.{date-admitted, held, holds-both, in-type}
+use Rattle.types.proofs.Laws.YearRanges.{years-range}
 use Rattle.held_values.specs.Admission.{admitted, givenAs, judged, judgedRead, textNumber}
 use Rattle.held_values.specs.Existence.{existsTime, existsValue, hoursOf, minutesOf, secondsOf}
-use Rattle.held_values.specs.Holding.{admits, admitsDate, admitsTime, between, holdsOf, inType}
+use Rattle.held_values.specs.Holding.{admits, admitsDate, admitsTime, holdsOf, inType}
 use Rattle.held_values.specs.Written.{printed}
 use Rattle.held_values.specs.declared.admission.Admission.{Admission}
 use Rattle.held_values.specs.declared.admission.Judgement.{Judgement}
@@ -103,14 +104,9 @@ no-other-form v e y f = other-form 20 (omega arith) longestYear (omega arith) (o
 
 -- ---- texts of what a type holds
 
-five-digits : (y : ℤ) → between (negsuc 99998) (pos 99999) y ≡ true → natAbs y < 10 ^ longestYear
-unfolding between
-five-digits (pos n) e = omega (arith, leb-true n 99999 (both true (leb n 99999) e .1))
-five-digits (negsuc k) e = omega (arith, leb-true k 99998 (both (leb k 99998) true e .0))
-
 pub date-short : (t : DateType) (d : Date) → admitsDate t d ≡ true → YearFits longestYear (yearOf d)
 unfolding YearFits
-date-short t d e = let p = date-admitted t d e in five-digits _ (years-range (t .years) _ (p .0))
+date-short t d e = years-range (t .years) _ (date-admitted t d e .0)
 
 admits-short : (p : Parts) (v : Value) → valueForm v ≡ formOfParts p → admits p v ≡ true → ShortYear longestYear v
 admits-short (Parts.Date t) (Value.Date d) f e = date-short t d e

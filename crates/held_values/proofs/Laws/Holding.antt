@@ -1,13 +1,12 @@
--- Forms are told apart, what a type holds, and the Year settings.
+-- Forms are told apart, and what a type holds.
 use mathlib.Core.Path.{_≡_, refl, sym, ap, _∙_}
-use mathlib.Core.Bool.{Bool, true, false, cond, Bool·beq, _&&_, _||_, and-true, or-true, or-false, false≢true}
-use mathlib.Core.List.{List, [], _∷_}
+use mathlib.Core.Bool.{Bool, true, false, _&&_, false≢true}
 use Prim.Native.Nat.{ℕ}
 use native.Mathlib.Omega.{arith}
-use lib.Dec.{T, leb, eqb}
-use lib.IntN.{ℤ, pos, negsuc}
+use lib.Dec.{T, eqb}
+use lib.IntN.{ℤ}
 use lib.Signed.{leZ, ltZ, _≤ℤ_, _<ℤ_, leZ-yes, ltZ-yes, <ℤ-≤ℤ-trans, clashℤ}
-use borrow.Author.Tests.{leb-true, leb-false, eqb-true, le-leb, lt-leb, eq-eqb}
+use borrow.Author.Tests.{eqb-true, eq-eqb}
 use Rattle.octets.proofs.Laws.Cases.{both}
 use Rattle.calendar.specs.Years.{astronomicalOf}
 use Rattle.calendar.specs.declared.years.Year.{Year}
@@ -19,7 +18,6 @@ use Rattle.texts.specs.declared.values.Time.{Time}
 use Rattle.texts.specs.declared.values.Value.{Value}
 use Rattle.types.specs.declared.types.DateType.{DateType}
 use Rattle.types.specs.declared.types.TimeType.{TimeType}
-use Rattle.types.specs.declared.types.Years.{Years}
 use Rattle.types.specs.declared.types.Window.{Window}
 use Rattle.types.specs.declared.types.Parts.{Parts}
 use Rattle.types.specs.declared.types.«Type».{«Type» as Ty}
@@ -30,7 +28,8 @@ use Rattle.types.specs.Types.{formOfParts, formOf, partsOf}
 use Rattle.held_values.specs.Forms.{sameDateForm, sameTimeForm, sameForm}
 use Rattle.held_values.specs.Existence.{hoursOf, existsValue}
 use Rattle.texts.specs.Forms.{yearOf}
-use Rattle.held_values.specs.Holding.{between, inBasic, inProleptic, inNegative, inFive, inYears, inWindow, admitsDate, admitsTime, admits, inType}
+use Rattle.types.specs.Years.{between, inYears}
+use Rattle.held_values.specs.Holding.{inWindow, admitsDate, admitsTime, admits, inType}
 use Rattle.held_values.specs.Holding.{holdsOf}
 use Rattle.answers.proofs.Laws.Outcomes.{by-number}
 use Rattle.held_values.proofs.Laws.Existence.{three}
@@ -179,134 +178,3 @@ module _ (lowest highest : Year) (above : ltZ (astronomicalOf highest) (astronom
       (λ e.
       let p = both (sameForm (valueForm value) (formOf t)) (admits (partsOf t) value) (held t value e .1) in
       no-value (partsOf t) value w (p .0) (p .1))
-
--- The four Year settings.
-pub data Setting : Type 0 where
-  basic : Setting
-  proleptic : Setting
-  negative : Setting
-  five : Setting
-
-abbrev pub inSetting : Setting → ℤ → Bool
-inSetting basic y = inBasic y
-inSetting proleptic y = inProleptic y
-inSetting negative y = inNegative y
-inSetting five y = inFive y
-
-abbrev settingAt : ℤ → Setting
-settingAt (pos k) = cond (leb k 1581) proleptic (cond (leb k 9999) basic five)
-settingAt (negsuc k) = cond (leb k 9998) negative five
-
-setting-is : (s : Setting) (y : ℤ) → inSetting s y ≡ true → settingAt y ≡ s
-unfolding between
-setting-is basic (pos k) e = let p = both (leb 1582 k) (leb k 9999) e in simp (lt-leb k 1581 (omega (arith, leb-true 1582 k (p .0))), p .1)
-setting-is basic (negsuc k) e = absurd (false≢true e)
-setting-is proleptic (pos k) e = simp (both (leb 0 k) (leb k 1581) e .1)
-setting-is proleptic (negsuc k) e = absurd (false≢true e)
-setting-is negative (pos k) e = absurd (false≢true e)
-setting-is negative (negsuc k) e = simp (both (leb k 9998) (leb 0 k) e .0)
-setting-is five (pos k) e =
-    let p = leb-true 10000 k (both (leb 10000 k) (leb k 99999) e .0) in
-    simp (lt-leb k 1581 (omega arith), lt-leb k 9999 (omega arith))
-setting-is five (negsuc k) e =
-    let p = leb-true 9999 k (both (leb k 99998) (leb 9999 k) (rw or-false at e) .1) in
-    simp (lt-leb k 9998 (omega arith))
-
--- No year is of two Year settings.
-pub one-setting : (a b : Setting) (y : ℤ) → inSetting a y ≡ true → inSetting b y ≡ true → a ≡ b
-one-setting a b y p q = sym (setting-is a y p) ∙ setting-is b y q
-
--- Each year from -99999 to 99999 is of a Year setting.
-pub some-setting : (y : ℤ) → between (negsuc 99998) (pos 99999) y ≡ true → (s : Setting) × (inSetting s y ≡ true)
-unfolding between
-some-setting (pos k) e = go (leb k 1581) (leb k 9999) refl refl where
-  go : (a b : Bool) → leb k 1581 ≡ a → leb k 9999 ≡ b → (s : Setting) × (inSetting s (pos k) ≡ true)
-  go true b p q = (proleptic, simp (le-leb 0 k (omega arith), p))
-  go false true p q = (basic, simp (le-leb 1582 k (leb-false k 1581 p), q))
-  go false false p q = (five, simp (le-leb 10000 k (leb-false k 9999 q), e))
-some-setting (negsuc k) e = go (leb k 9998) refl where
-  go : (a : Bool) → leb k 9998 ≡ a → (s : Setting) × (inSetting s (negsuc k) ≡ true)
-  go true p = (negative, simp (p, le-leb 0 k (omega arith)))
-  go false p = (five, simp (le-leb 9999 k (leb-false k 9998 p), rw and-true at e))
-
--- A year of a Year setting lies from -99999 to 99999.
-pub setting-range : (s : Setting) (y : ℤ) → inSetting s y ≡ true → between (negsuc 99998) (pos 99999) y ≡ true
-unfolding between
-setting-range basic (pos k) e = le-leb k 99999 (omega (arith, leb-true k 9999 (both (leb 1582 k) (leb k 9999) e .1)))
-setting-range basic (negsuc k) e = absurd (false≢true e)
-setting-range proleptic (pos k) e = le-leb k 99999 (omega (arith, leb-true k 1581 (both (leb 0 k) (leb k 1581) e .1)))
-setting-range proleptic (negsuc k) e = absurd (false≢true e)
-setting-range negative (pos k) e = absurd (false≢true e)
-setting-range negative (negsuc k) e = rw and-true (le-leb k 99998 (omega (arith, leb-true k 9998 (both (leb k 9998) (leb 0 k) e .0))))
-setting-range five (pos k) e = both (leb 10000 k) (leb k 99999) e .1
-setting-range five (negsuc k) e = rw and-true (both (leb k 99998) (leb 9999 k) (rw or-false at e) .0)
-
--- Whether a Year setting is one that a type names.
-abbrev pub names : Years → Setting → Bool
-names (Years.Plain years) basic = years .basic
-names (Years.Plain years) proleptic = years .proleptic
-names (Years.Plain years) negative = false
-names (Years.Plain years) five = false
-names (Years.Signed years) basic = false
-names (Years.Signed years) proleptic = false
-names (Years.Signed years) negative = years .negative
-names (Years.Signed years) five = years .five
-
-either : (a b d e : Bool) {A : Type 0} → (a && b || d && e) ≡ true → (a ≡ true → b ≡ true → A) → (d ≡ true → e ≡ true → A) → A
-either true true d e h f g = f refl refl
-either true false d e h f g = let p = both d e h in g (p .0) (p .1)
-either false b d e h f g = let p = both d e h in g (p .0) (p .1)
-
--- A year of a type's years is of a setting that the type names.
-pub year-named : (years : Years) (y : ℤ) → inYears years y ≡ true → (s : Setting) × (names years s ≡ true) × (inSetting s y ≡ true)
-year-named (Years.Plain years) y e = either (years .basic) (inBasic y) (years .proleptic) (inProleptic y) e (λ n i. (basic, n, i)) (λ n i. (proleptic, n, i))
-year-named (Years.Signed years) y e = either (years .negative) (inNegative y) (years .five) (inFive y) e (λ n i. (negative, n, i)) (λ n i. (five, n, i))
-
--- A year of a setting that the type names is of the type's years.
-pub named-year : (years : Years) (s : Setting) (y : ℤ) → names years s ≡ true → inSetting s y ≡ true → inYears years y ≡ true
-named-year (Years.Plain years) basic y n i = simp (n, i)
-named-year (Years.Plain years) proleptic y n i = simp (n, i, or-true)
-named-year (Years.Plain years) negative y n i = absurd (false≢true n)
-named-year (Years.Plain years) five y n i = absurd (false≢true n)
-named-year (Years.Signed years) basic y n i = absurd (false≢true n)
-named-year (Years.Signed years) proleptic y n i = absurd (false≢true n)
-named-year (Years.Signed years) negative y n i = simp (n, i)
-named-year (Years.Signed years) five y n i = simp (n, i, or-true)
-
-pub years-range : (years : Years) (y : ℤ) → inYears years y ≡ true → between (negsuc 99998) (pos 99999) y ≡ true
-years-range years y e = let p = year-named years y e in setting-range (p .0) y (p .2)
-
--- The ends of each setting, as checked values: a setting, a year, and whether the year is of it.
-data Row : Type 0 where
-  year : Setting → ℤ → Bool → Row
-
-rows : List Row
-rows =
-    year proleptic (negsuc 0) false ∷
-    year proleptic (pos 0) true ∷
-    year proleptic (pos 1581) true ∷
-    year proleptic (pos 1582) false ∷
-    year basic (pos 1581) false ∷
-    year basic (pos 1582) true ∷
-    year basic (pos 9999) true ∷
-    year basic (pos 10000) false ∷
-    year negative (negsuc 9999) false ∷
-    year negative (negsuc 9998) true ∷
-    year negative (negsuc 0) true ∷
-    year negative (pos 0) false ∷
-    year five (negsuc 99999) false ∷
-    year five (negsuc 99998) true ∷
-    year five (negsuc 9999) true ∷
-    year five (negsuc 9998) false ∷
-    year five (pos 9999) false ∷
-    year five (pos 10000) true ∷
-    year five (pos 99999) true ∷
-    year five (pos 100000) false ∷ []
-
-allRight : List Row → Bool
-allRight [] = true
-allRight (year s y is ∷ l) = Bool·beq (inSetting s y) is && allRight l
-
-settings-checked : allRight rows ≡ true
-unfolding rows allRight between
-settings-checked = refl

@@ -21,12 +21,13 @@ use Rattle.lists.specs.Lists.{addPair, addPairs, complete, completed, datedList
 use Rattle.lists.specs.Words.{fractionNumber, pairOf, placeFrom}
 use Rattle.types.specs.Numbers.{clockAt, dateAt, zoneAt}
 use Rattle.type_texts.specs.TypeTexts.{allOf, distinct, equalLists, joined, listType, pointType, listsOf, member, oneRow, sameButYear, timeAt, typeOf, usable}
-use Rattle.type_texts.specs.TypeTexts.{yearFamily, yearsOf}
+use Rattle.type_texts.specs.TypeTexts.{yearsOf}
 use Rattle.types.specs.AnyTypes.{limitedTo}
 use Rattle.types.specs.Types.{placed}
 use Rattle.held_values.specs.Existence.{existsClock, existsDifference, existsFraction, existsLeap, existsTime, lessDifference}
 use Rattle.held_values.specs.Forms.{sameDateForm, sameTimeForm}
-use Rattle.held_values.specs.Holding.{admitsDate, admitsTime, between, inType}
+use Rattle.held_values.specs.Holding.{admitsDate, admitsTime, inType}
+use Rattle.types.specs.Years.{between, inLong, inYears, someYear, yearSettingAt}
 use Rattle.fields.specs.Bits.{bitsOf, numberIn, octetsOf, packed, unpacked}
 use Rattle.fields.specs.Integers.{fewest, fromTwos, half, twos, within}
 use Rattle.fields.specs.Fields.{binaryDigits, bitCount, fieldBits, fieldWidth, layout, width}
@@ -106,12 +107,13 @@ rows =
     []
 
 allRight : List Row → Bool
-unfolding upTo quotient remainder divisible monthLengthOf daysOfYears newYear weekOf weekOneOf weeksOf astronomicalOf yearAt leapOf yearLengthOf putAfter
-    putDate getWeek getAfter getDate putDigits getDigits getField leading render getValue readUpTo putClock getAfterHours getClock putFraction getFraction
-    putZone getMinutes getDifference getZone putTime getTime sizeIn yearDigits yearText signedFits getSigned getYear splitOn addPair addPairs datedList
-    timedList complete completed listOf eqList placeFrom fractionNumber pairOf dateAt clockAt zoneAt listsOf sameButYear yearFamily oneRow equalLists allOf
-    distinct usable member yearsOf timeAt listType pointType joined typeOf placed limitedTo existsClock existsFraction existsDifference lessDifference
-    existsLeap existsTime sameDateForm sameTimeForm between admitsDate admitsTime inType bitsOf numberIn packed octetsOf unpacked half within fewest twos
+unfolding upTo quotient remainder divisible monthLengthOf daysOfYears newYear weekOf weekOneOf weeksOf astronomicalOf yearAt leapOf yearLengthOf
+    putAfter putDate getWeek getAfter getDate putDigits getDigits getField leading render getValue readUpTo putClock getAfterHours getClock
+    putFraction getFraction putZone getMinutes getDifference getZone putTime getTime sizeIn yearDigits yearText signedFits getSigned getYear splitOn
+    addPair addPairs datedList timedList complete completed listOf eqList placeFrom fractionNumber pairOf dateAt clockAt zoneAt listsOf sameButYear
+    yearSettingAt oneRow equalLists allOf distinct usable member yearsOf timeAt listType pointType joined typeOf placed limitedTo existsClock
+    existsFraction existsDifference lessDifference existsLeap existsTime sameDateForm sameTimeForm between inLong inYears someYear admitsDate
+    admitsTime inType bitsOf numberIn packed octetsOf unpacked half within fewest twos
     fromTwos binaryDigits width fieldBits layout fieldWidth bitCount _>>=_ aRanged aFree require readBits readRanged readFree run otherYear choiceOfYear
     yearFields dayFields dateFields clockFields longFraction fractionFields hoursField differenceFields zoneFields timeFields fieldsOf readChoice readYear
     readDay readDate readClock natural readExtended readFraction readMinutes differenceAt readZone readTime readValue readOctets judgedAs judgedText encoded

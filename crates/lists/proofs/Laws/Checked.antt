@@ -27,6 +27,17 @@ rows =
     list "Basic=Time Time=HMSF9 Local-or-UTC=LD" 2 0 0 93 3 0 ∷
     list "Basic=Date-Time Date=YW Year=Basic Time=HF1 Local-or-UTC=L" 3 5 1 11 1 0 ∷
     list "Time=HMF5 Date=YWD Local-or-UTC=Z Year=L5 Basic=Date-Time" 3 6 4 52 2 0 ∷
+    -- "`Year=L6` to `L9`" (#103), and the words nearest to them, which are none
+    list "Basic=Date Date=Y Year=L6" 1 1 5 0 0 0 ∷
+    list "Basic=Date Date=Y Year=L7" 1 1 6 0 0 0 ∷
+    list "Basic=Date Date=Y Year=L8" 1 1 7 0 0 0 ∷
+    list "Year=L9 Basic=Date Date=Y" 1 1 8 0 0 0 ∷
+    list "Basic=Date Date=Y Year=L4" 0 0 0 0 0 0 ∷
+    list "Basic=Date Date=Y Year=L10" 0 0 0 0 0 0 ∷
+    list "Basic=Date Date=Y Year=L06" 0 0 0 0 0 0 ∷
+    list "Basic=Date Date=Y Year=l9" 0 0 0 0 0 0 ∷
+    list "Basic=Date Date=Y Year=L" 0 0 0 0 0 0 ∷
+    list "Basic=Date Date=Y Year=L6 Year=L7" 0 0 0 0 0 0 ∷
     -- "missing"
     list "Date=Y Year=Basic" 0 0 0 0 0 0 ∷
     list "Basic=Date Year=Basic" 0 0 0 0 0 0 ∷

@@ -14,6 +14,8 @@ use Rattle.octets.proofs.Laws.Octets.{equal}
 use Rattle.lists.specs.Words.{placeFrom, placeIn, basicWords, dateWords, yearWords, clockWords, fractionWords, zoneWords, intervalWords}
 use Rattle.lists.specs.Words.{withDigits, fractionNumber, firstNumber, pair, pairOf}
 use Rattle.lists.specs.declared.words.Pair.{Pair}
+use Rattle.types.specs.Years.{yearNumber, yearWord}
+use Rattle.types.specs.declared.years.YearSetting.{YearSetting}
 use Rattle.lists.proofs.Laws.Lists.{first-of}
 
 -- The words, each with its property and the number of its setting: there are no others.
@@ -30,11 +32,8 @@ pub data Word : List ℕ → Pair → Type 0 where
   date-YD : Word (bytes "Date=YD") (pair 1 4)
   date-YW : Word (bytes "Date=YW") (pair 1 5)
   date-YWD : Word (bytes "Date=YWD") (pair 1 6)
-  -- "`Year`: Basic .., Proleptic .., Negative .., L5 .."
-  year-basic : Word (bytes "Year=Basic") (pair 2 1)
-  year-proleptic : Word (bytes "Year=Proleptic") (pair 2 2)
-  year-negative : Word (bytes "Year=Negative") (pair 2 3)
-  year-L5 : Word (bytes "Year=L5") (pair 2 4)
+  -- "`Year`: Basic .., Proleptic .., Negative .., L5 ..", and "L6 to L9" (#103).
+  year : (y : YearSetting) → Word (bytes (yearWord y)) (pair 2 (yearNumber y))
   -- Of "`Time`: H, HM, HMS, HFn, HMFn, HMSFn, with n from 1 to 9" the first three.
   time-H : Word (bytes "Time=H") (pair 3 1)
   time-HM : Word (bytes "Time=HM") (pair 3 2)
@@ -88,10 +87,14 @@ module _ (w : List ℕ) where
 
   year-spelled : Spelled-in 2 (placeIn yearWords w)
   year-spelled =
-      place-case w (Spelled-in 2) 1 "Year=Basic" _ (λ e h. rw e year-basic)
-      (place-case w (Spelled-in 2) 2 "Year=Proleptic" _ (λ e h. rw e year-proleptic)
-      (place-case w (Spelled-in 2) 3 "Year=Negative" _ (λ e h. rw e year-negative)
-      (place-case w (Spelled-in 2) 4 "Year=L5" _ (λ e h. rw e year-L5) (no-place w 2 5))))
+      place-case w (Spelled-in 2) 1 "Year=Basic" _ (λ e h. rw e (year YearSetting.Basic))
+      (place-case w (Spelled-in 2) 2 "Year=Proleptic" _ (λ e h. rw e (year YearSetting.Proleptic))
+      (place-case w (Spelled-in 2) 3 "Year=Negative" _ (λ e h. rw e (year YearSetting.Negative))
+      (place-case w (Spelled-in 2) 4 "Year=L5" _ (λ e h. rw e (year YearSetting.L5))
+      (place-case w (Spelled-in 2) 5 "Year=L6" _ (λ e h. rw e (year YearSetting.L6))
+      (place-case w (Spelled-in 2) 6 "Year=L7" _ (λ e h. rw e (year YearSetting.L7))
+      (place-case w (Spelled-in 2) 7 "Year=L8" _ (λ e h. rw e (year YearSetting.L8))
+      (place-case w (Spelled-in 2) 8 "Year=L9" _ (λ e h. rw e (year YearSetting.L9)) (no-place w 2 9))))))))
 
   clock-spelled : Spelled-in 3 (placeIn clockWords w)
   clock-spelled =
@@ -184,6 +187,17 @@ word-spelled w =
     P : Pair → Type 0
     P p = 0 < p .setting → Word w p
 
+year-read : (y : YearSetting) → pairOf (bytes (yearWord y)) ≡ pair 2 (yearNumber y)
+unfolding pairOf placeFrom eqList
+year-read YearSetting.Basic = refl
+year-read YearSetting.Proleptic = refl
+year-read YearSetting.Negative = refl
+year-read YearSetting.L5 = refl
+year-read YearSetting.L6 = refl
+year-read YearSetting.L7 = refl
+year-read YearSetting.L8 = refl
+year-read YearSetting.L9 = refl
+
 -- Each word is read as its setting.
 pub word-read : (w : List ℕ) (p : Pair) → Word w p → pairOf w ≡ p
 unfolding pairOf placeFrom eqList fractionNumber
@@ -197,10 +211,7 @@ word-read w p date-YMD = refl
 word-read w p date-YD = refl
 word-read w p date-YW = refl
 word-read w p date-YWD = refl
-word-read w p year-basic = refl
-word-read w p year-proleptic = refl
-word-read w p year-negative = refl
-word-read w p year-L5 = refl
+word-read w p (year y) = year-read y
 word-read w p time-H = refl
 word-read w p time-HM = refl
 word-read w p time-HMS = refl

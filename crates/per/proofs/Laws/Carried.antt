@@ -1,7 +1,7 @@
 -- What a type holds has each part in the range of its field.
 use mathlib.Core.Path.{_≡_}
 use mathlib.Core.Bool.{true}
-use Prim.Native.Nat.{_^_, _≤_, _<_}
+use Prim.Native.Nat.{ℕ, _^_, _≤_, _<_}
 use native.Mathlib.Omega.{arith}
 use native.Mathlib.Nat.{pow-le-pow-right}
 use lib.IntN.{ℤ, pos, negsuc, natAbs}
@@ -18,7 +18,10 @@ use Rattle.texts.specs.declared.values.Time.{Time}
 use Rattle.texts.specs.declared.values.Value.{Value}
 use Rattle.texts.specs.declared.values.Zone.{Zone}
 use Rattle.texts.proofs.Laws.Fits.{Fits, DateFits, YearFits}
+use Rattle.types.specs.Years.{inSetting}
 use Rattle.types.specs.declared.types.«Type».{«Type» as Ty}
+use Rattle.types.specs.declared.years.YearSetting.{YearSetting}
+use Rattle.types.proofs.Laws.YearRanges.{setting-range}
 use Rattle.held_values.specs.Existence.{existsTime, existsValue, hoursOf, minutesOf, secondsOf}
 use Rattle.held_values.specs.Holding.{holdsOf}
 use Rattle.held_values.proofs.Laws.Existence.{ZoneInRange, time-range}
@@ -29,13 +32,23 @@ use Rattle.fields.proofs.Laws.Integers.{within-in}
 use Rattle.rows.specs.Ranges.{carried}
 use Rattle.rows.proofs.Laws.Carried.{ClockInFields, DateInFields, InFields, TimeInFields, ZoneInFields, carried-value}
 
--- a year of at most five digits has at most four octets
+-- a year that a text can show has at most four octets
 year-within : (y : ℤ) → natAbs y < 10 ^ longestYear → within 4 y ≡ true
 year-within y h = within-in 4 y (small y h)
   where
     small : (y : ℤ) → natAbs y < 10 ^ longestYear → mag y < half 4
     small (pos n) h = unfold half in omega arith
     small (negsuc n) h = unfold half in omega arith
+
+-- "Free integers still need at most four octets" (#103): four are enough for each year of a Year setting, ..
+pub four-octets : (s : YearSetting) (y : ℤ) → inSetting s y ≡ true → within 4 y ≡ true
+four-octets s y e = year-within y (setting-range s y e)
+
+-- .. and for each fraction.
+pub fraction-octets : (n f : ℕ) → n ≤ 9 → f < 10 ^ n → within 4 (pos f) ≡ true
+fraction-octets n f h k =
+    let m : f < half 4 = unfold half in omega (arith, k, pow-le-pow-right {n = 10} (omega arith) h) in
+    within-in 4 (pos f) m
 
 date-in : (d : Date) → existsOf d ≡ true → DateFits longestYear d → DateInFields d
 unfolding DateFits YearFits
@@ -54,11 +67,10 @@ zone-in (Zone.LD d) r = record { behind = λ e. (r .signed e, r .hours); ahead =
 time-in : (t : Time) → existsTime t ≡ true → TimeInFields t
 time-in t e =
     let r = time-range t e in
-    let m : t .fraction < half 4 = unfold half in omega (arith, r .fraction, pow-le-pow-right {n = 10} (omega arith) (r .digits)) in
     record {
       clock = clock-in (t .clock) (r .hours) (r .minutes) (r .seconds);
       fraction = r .fraction;
-      octets = within-in 4 (pos (t .fraction)) m;
+      octets = fraction-octets (t .digits) (t .fraction) (r .digits) (r .fraction);
       zone = zone-in (t .zone) (r .zone);
     }
 

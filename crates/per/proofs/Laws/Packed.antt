@@ -11,7 +11,7 @@ use Rattle.fields.specs.Fields.{layout}
 use Rattle.fields.proofs.Laws.Bits.{length-octets}
 use Rattle.fields.proofs.Laws.Fields.{length-layout}
 use Rattle.rows.specs.Fields.{fieldsOf}
-use Rattle.rows.specs.declared.YearRow.{YearRow}
+use Rattle.types.specs.declared.years.YearRow.{YearRow}
 use Rattle.rows.proofs.Laws.Widths.{most-bits}
 use Rattle.packing.specs.Packed.{inBuffer, packedOf}
 use Rattle.packing.specs.declared.writing.Packed.{Packed}

@@ -19,7 +19,7 @@ use Rattle.fields.specs.Bits.{BitString, unpacked}
 use Rattle.rows.specs.Fields.{yearRowOf}
 use Rattle.rows.specs.Loose.{ReadableBits}
 use Rattle.rows.specs.Readings.{readOctets}
-use Rattle.rows.specs.declared.YearRow.{YearRow}
+use Rattle.types.specs.declared.years.YearRow.{YearRow}
 use Rattle.rows.proofs.Laws.Exact.{read-octets, reads-only, reads-all}
 use Rattle.unpacking.specs.Unpacked.{valueIn}
 use Rattle.unpacking.specs.declared.values.ValueRead.{ValueRead}

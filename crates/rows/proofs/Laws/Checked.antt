@@ -24,13 +24,13 @@ use Rattle.types.specs.declared.types.DateType.{DateType}
 use Rattle.types.specs.Types.{listed}
 use Rattle.types.specs.declared.types.Parts.{Parts}
 use Rattle.types.specs.declared.types.Window.{Window}
-use Rattle.types.specs.declared.types.Years.{Years}
+use Rattle.types.specs.declared.years.Years.{Years}
 use Rattle.fields.specs.Bits.{bitsOf, numberIn, packed, octetsOf, unpacked}
 use Rattle.fields.specs.Integers.{half, within, fewest, twos, fromTwos}
 use Rattle.fields.specs.Fields.{binaryDigits, width, fieldBits, layout, fieldWidth, bitCount}
 use Rattle.fields.specs.Readings.{_>>=_, aRanged, aFree, require, readBits, readRanged, readFree, run, natural}
 use Rattle.answers.proofs.Laws.Quoted.{hex}
-use Rattle.rows.specs.declared.YearRow.{YearRow}
+use Rattle.types.specs.declared.years.YearRow.{YearRow}
 use Rattle.rows.specs.Fields.{yearRowOf, otherYear, choiceOfYear, yearFields, dayFields, dateFields, clockFields, longFraction, fractionFields}
 use Rattle.rows.specs.Fields.{hoursField, differenceFields, zoneFields, timeFields, fieldsOf}
 use Rattle.rows.specs.Readings.{readChoice, readYear, readDay, readDate, readClock, readExtended, readFraction, readMinutes, differenceAt}
@@ -51,8 +51,8 @@ at clock digits fraction zone = record { clock = clock; digits = digits; fractio
 abbrev plainYears : Bool → Bool → Years
 plainYears basic proleptic = Years.Plain (record { basic = basic; proleptic = proleptic })
 
-abbrev signedYears : Bool → Bool → Years
-signedYears negative five = Years.Signed (record { negative = negative; five = five })
+abbrev signedYears : Bool → Bool → Bool → Bool → Bool → Bool → Years
+signedYears a b c d e f = Years.Signed (record { negative = a; five = b; six = c; seven = d; eight = e; nine = f })
 
 abbrev basic : Years
 basic = plainYears true false
@@ -64,13 +64,25 @@ abbrev plain : Years
 plain = plainYears true true
 
 abbrev negative : Years
-negative = signedYears true false
+negative = signedYears true false false false false false
 
 abbrev five : Years
-five = signedYears false true
+five = signedYears false true false false false false
+
+abbrev six : Years
+six = signedYears false false true false false false
+
+abbrev seven : Years
+seven = signedYears false false false true false false
+
+abbrev eight : Years
+eight = signedYears false false false false true false
+
+abbrev nine : Years
+nine = signedYears false false false false false true
 
 abbrev signed : Years
-signed = signedYears true true
+signed = signedYears true true true true true true
 
 abbrev datesOf : Years → Date → DateType
 datesOf years d = record { form = dateForm d; years = years; window = Window.Every }
@@ -267,6 +279,21 @@ typed =
     typedDate negative (Date.Y (yearAt (negsuc 0))) "01FF" 16 ∷
     typedDate five (Date.Y (yearAt (pos 10000))) "022710" 24 ∷
     typedDate signed (Date.Y (yearAt (negsuc 9999))) "02D8F0" 24 ∷
+    typedDate six (Date.Y (yearAt (pos 100000))) "030186A0" 32 ∷
+    typedDate six (Date.Y (yearAt (negsuc 999998))) "03F0BDC1" 32 ∷
+    typedDate seven (Date.Y (yearAt (pos 1000000))) "030F4240" 32 ∷
+    typedDate seven (Date.Y (yearAt (negsuc 9999998))) "04FF676981" 40 ∷
+    typedDate eight (Date.Y (yearAt (pos 10000000))) "0400989680" 40 ∷
+    typedDate eight (Date.Y (yearAt (negsuc 99999998))) "04FA0A1F01" 40 ∷
+    typedDate nine (Date.Y (yearAt (pos 100000000))) "0405F5E100" 40 ∷
+    typedDate nine (Date.Y (yearAt (negsuc 999999998))) "04C4653601" 40 ∷
+    typedDate signed (Date.Y (yearAt (pos 8388607))) "037FFFFF" 32 ∷
+    typedDate signed (Date.Y (yearAt (pos 8388608))) "0400800000" 40 ∷
+    typedDate signed (Date.Y (yearAt (negsuc 8388607))) "03800000" 32 ∷
+    typedDate signed (Date.Y (yearAt (negsuc 8388608))) "04FF7FFFFF" 40 ∷
+    typedDate signed (Date.Y (yearAt (pos 999999999))) "043B9AC9FF" 40 ∷
+    typedDate signed (Date.Y (yearAt (negsuc 999999998))) "04C4653601" 40 ∷
+    typedBoth nine (Date.YMD (yearAt (negsuc 999999998)) 6 13) (Clock.H 15) 0 0 Zone.L "04C4653601563C" 54 ∷
     typedBoth negative (Date.Y (yearAt (negsuc 0))) (Clock.H 15) 0 0 Zone.L "01FF78" 21 ∷
     typedBoth five (Date.Y (yearAt (pos 10000))) (Clock.H 15) 0 0 Zone.L "02271078" 29 ∷
     typedBoth signed (Date.YMD (yearAt (negsuc 0)) 6 13) (Clock.H 15) 0 0 Zone.L "01FF563C" 30 ∷ []

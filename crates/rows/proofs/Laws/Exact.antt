@@ -15,7 +15,7 @@ use Rattle.fields.specs.Readings.{run}
 use Rattle.fields.specs.Spelled.{spelledFields}
 use Rattle.fields.proofs.Laws.Bits.{unpacked-octets}
 use Rattle.fields.proofs.Laws.Readings.{run-spelled, run-only, run-layout}
-use Rattle.rows.specs.declared.YearRow.{YearRow}
+use Rattle.types.specs.declared.years.YearRow.{YearRow}
 use Rattle.rows.specs.Fields.{fieldsOf}
 use Rattle.rows.specs.Readings.{readValue, readOctets}
 use Rattle.rows.specs.Ranges.{carried}

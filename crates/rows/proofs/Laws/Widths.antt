@@ -14,7 +14,7 @@ use Rattle.texts.specs.declared.values.Value.{Value}
 use Rattle.texts.specs.declared.values.Zone.{Zone}
 use Rattle.fields.specs.Fields.{Field, width, binaryDigits, fieldWidth, bitCount}
 use Rattle.fields.proofs.Laws.Fields.{count-append, free-width}
-use Rattle.rows.specs.declared.YearRow.{YearRow}
+use Rattle.types.specs.declared.years.YearRow.{YearRow}
 use Rattle.rows.specs.Fields.{otherYear, choiceOfYear, yearFields, dayFields, dateFields, clockFields, longFraction, fractionFields, hoursField}
 use Rattle.rows.specs.Fields.{differenceFields, zoneFields, timeFields, fieldsOf}
 

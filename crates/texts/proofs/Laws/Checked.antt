@@ -60,7 +60,36 @@ texts-checked =
     none DateForm.Y "-0000" refl ∷
     none DateForm.Y "12006" refl ∷
     none DateForm.Y "+02006" refl ∷
-    none DateForm.Y "+100000" refl ∷
+    -- "A sign with six to nine digits, the first not 0, is from now on of the form" (#103)
+    shown (Value.Date (Date.Y (yearAt (pos 100000)))) "+100000" refl refl ∷
+    shown (Value.Date (Date.Y (yearAt (negsuc 99999)))) "-100000" refl refl ∷
+    shown (Value.Date (Date.Y (yearAt (pos 999999)))) "+999999" refl refl ∷
+    shown (Value.Date (Date.Y (yearAt (negsuc 999998)))) "-999999" refl refl ∷
+    shown (Value.Date (Date.Y (yearAt (pos 1000000)))) "+1000000" refl refl ∷
+    shown (Value.Date (Date.Y (yearAt (negsuc 999999)))) "-1000000" refl refl ∷
+    shown (Value.Date (Date.Y (yearAt (pos 9999999)))) "+9999999" refl refl ∷
+    shown (Value.Date (Date.Y (yearAt (negsuc 9999998)))) "-9999999" refl refl ∷
+    shown (Value.Date (Date.Y (yearAt (pos 10000000)))) "+10000000" refl refl ∷
+    shown (Value.Date (Date.Y (yearAt (negsuc 9999999)))) "-10000000" refl refl ∷
+    shown (Value.Date (Date.Y (yearAt (pos 99999999)))) "+99999999" refl refl ∷
+    shown (Value.Date (Date.Y (yearAt (negsuc 99999998)))) "-99999999" refl refl ∷
+    shown (Value.Date (Date.Y (yearAt (pos 100000000)))) "+100000000" refl refl ∷
+    shown (Value.Date (Date.Y (yearAt (negsuc 99999999)))) "-100000000" refl refl ∷
+    shown (Value.Date (Date.Y (yearAt (pos 999999999)))) "+999999999" refl refl ∷
+    shown (Value.Date (Date.Y (yearAt (negsuc 999999998)))) "-999999999" refl refl ∷
+    shown (Value.Date (Date.YMD (yearAt (pos 123456)) 2 30)) "+123456-02-30" refl refl ∷
+    shown (Value.Date (Date.YWD (yearAt (negsuc 999999998)) 53 7)) "-999999999-W53-7" refl refl ∷
+    none DateForm.Y "+0000000000" refl ∷
+    none DateForm.Y "+011985" refl ∷
+    none DateForm.YMD "+011985-04-12" refl ∷
+    none DateForm.Y "-0119850" refl ∷
+    none DateForm.Y "+01198500" refl ∷
+    none DateForm.Y "-011985000" refl ∷
+    none DateForm.Y "1000000" refl ∷
+    none DateForm.Y "+1000000000" refl ∷
+    none DateForm.Y "-1000000000" refl ∷
+    none DateForm.Y "+4294967296" refl ∷
+    none DateForm.Y "+18446744073709551616" refl ∷
     -- "two-digit fields with `:` between, then for Fn a `.` or `,` and exactly n digits, then nothing (L), `Z`, or a sign .."
     shown (Value.Time (time (Clock.H 15) 0 0 Zone.L)) "15" refl refl ∷
     shown (Value.Time (time (Clock.HM 15 27) 0 0 Zone.Z)) "15:27Z" refl refl ∷

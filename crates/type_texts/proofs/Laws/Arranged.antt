@@ -21,8 +21,10 @@ use Rattle.texts.specs.declared.forms.ClockForm.{ClockForm}
 use Rattle.texts.specs.declared.forms.TimeForm.{TimeForm}
 use Rattle.texts.specs.declared.forms.ZoneForm.{ZoneForm}
 use Rattle.types.specs.Numbers.{dateNumber, zoneNumber}
-use Rattle.type_texts.specs.Written.{YearSetting, dateWord, yearWord, timeWord, zoneWord, datePairs, timePairs, dateTimePairs, durationPairs}
-use Rattle.type_texts.proofs.Laws.Written.{yearNumber, timeCode, dateList, timeList, dateTimeList, durationList}
+use Rattle.types.specs.Years.{yearNumber, yearWord}
+use Rattle.types.specs.declared.years.YearSetting.{YearSetting}
+use Rattle.type_texts.specs.Written.{dateWord, timeWord, zoneWord, datePairs, timePairs, dateTimePairs, durationPairs}
+use Rattle.type_texts.proofs.Laws.Written.{timeCode, dateList, timeList, dateTimeList, durationList}
 use Rattle.type_texts.proofs.Laws.Tests.{five-hold}
 use Rattle.type_texts.proofs.Laws.Words.{SettingWord, basic-date, basic-time, basic-date-time, basic-interval, date, year, time, zone, interval}
 use Rattle.type_texts.proofs.Laws.Words.{setting-spelled, pairs-read}
@@ -140,7 +142,7 @@ date-is w q (zone z) e = absurd (omega arith)
 date-is w q interval e = absurd (omega arith)
 
 data YearIs : List ℕ → ℕ → Type 0 where
-  year-of : (y : YearSetting) → YearIs (yearWord y) (yearNumber y)
+  year-of : (y : YearSetting) → YearIs (bytes (yearWord y)) (yearNumber y)
 
 year-is : (w : List ℕ) (q : Pair) → SettingWord w q → q .property ≡ 2 → YearIs w (q .setting)
 year-is w q basic-date e = absurd (omega arith)

@@ -11,12 +11,13 @@ use Rattle.octets.specs.Octets.{bytes, eqList}
 use Rattle.octets.specs.Pieces.{splitOn}
 use Rattle.calendar.specs.Years.{yearAt}
 use Rattle.types.specs.Numbers.{dateAt, clockAt, zoneAt}
+use Rattle.types.specs.Years.{yearSettingAt}
 use Rattle.types.specs.AnyTypes.{fractionDigits, limitedTo}
 use Rattle.types.specs.Types.{typeNumber, placed, noLimits}
 use Rattle.types.specs.Rows.{timeNumber, sameRow, sameRows}
 use Rattle.lists.specs.Words.{placeFrom, fractionNumber, pairOf}
 use Rattle.lists.specs.Lists.{addPair, addPairs, datedList, timedList, intervalList, complete, completed, listOf}
-use Rattle.type_texts.specs.TypeTexts.{listsOf, sameButYear, yearFamily, oneRow, equalLists, allOf, distinct, usable, member, yearsOf, timeAt, listType}
+use Rattle.type_texts.specs.TypeTexts.{listsOf, sameButYear, oneRow, equalLists, allOf, distinct, usable, member, yearsOf, timeAt, listType}
 use Rattle.type_texts.specs.TypeTexts.{pointType, joined, typeOf}
 use Rattle.types.specs.declared.types.Window.{Window}
 use Rattle.types.specs.declared.types.Limits.{Limits}
@@ -71,7 +72,6 @@ texts =
     text "basic=Date Date=Y Year=Basic" noLimits 1 ∷
     text "Basic=Date Date=Y Year=Basic Midnight=Start" noLimits 1 ∷
     text "Basic=Date Date=DMY Year=Basic" noLimits 1 ∷
-    text "Basic=Date Date=Y Year=L6" noLimits 1 ∷
     text "Basic=Time Time=HS Local-or-UTC=L" noLimits 1 ∷
     text "Basic=Time Time=HF Local-or-UTC=L" noLimits 1 ∷
     text "Basic=Time Time=HF0 Local-or-UTC=L" noLimits 1 ∷
@@ -97,8 +97,7 @@ texts =
     text "Basic=Time Time=H Local-or-UTC=L|Basic=Time Time=H Local-or-UTC=L" noLimits 1 ∷
     text "Basic=Date-Time Date=YMD Year=Basic Time=HMSF3 Local-or-UTC=L|Basic=Date-Time Date=YMD Year=Basic Time=HMSF3 Local-or-UTC=L" noLimits 1 ∷
     text "Basic=Date-Time Date=YMD Year=Basic Time=HMSF3 Local-or-UTC=L|Local-or-UTC=L Time=HMSF3 Year=Basic Date=YMD Basic=Date-Time" noLimits 1 ∷
-    -- three lists, and a name beside a bar
-    text "Basic=Date Date=Y Year=Basic|Basic=Date Date=Y Year=Proleptic|Basic=Date Date=Y Year=L5" noLimits 1 ∷
+    -- a name beside a bar
     text "DATE|DATE" noLimits 1 ∷
     text "DATE|TIME-OF-DAY" noLimits 1 ∷
     text "Basic=Date Date=YMD Year=Proleptic|DATE" noLimits 1 ∷
@@ -127,7 +126,7 @@ texts =
     text "Basic=Date Date=YMD Year=Basic|Basic=Date-Time Date=YMD Year=Basic Time=HMSF3 Local-or-UTC=L" noLimits 2 ∷
     -- 1 before 2
     text "Basic=Date Date=Y Year=Basic|Basic=Time Time=H" noLimits 1 ∷
-    text "Basic=Date Date=Y Year=Basic|Basic=Date Date=YM Year=L5|Basic=Time Time=H Local-or-UTC=L" noLimits 1 ∷
+    text "Basic=Date Date=Y Year=Basic|Basic=Date Date=YM Year=L5|Basic=Time Time=H" noLimits 1 ∷
     -- restrictions, with their place and without it, and before 2
     text "DATE" from2000 0 ∷
     text "DATE" noHour24 1 ∷
@@ -145,6 +144,93 @@ texts =
     text "Basic=Date-Time Date=YMD Year=Basic Time=HMSF3 Local-or-UTC=L|Basic=Time Time=HMSF3 Local-or-UTC=L" from2000 1 ∷
     text "Basic=Date Date=YMD Year=Basic|Basic=Time Time=HMSF3 Local-or-UTC=L" bothLimits 1 ∷
     text "Basic=Date Date=Y Year=Basic|Basic=Date Date=YM Year=Basic" from2000 2 ∷
+    -- "`Year=L6` to `L9`" (#103), and the words nearest to them
+    text "Basic=Date Date=Y Year=L6" noLimits 0 ∷
+    text "Basic=Date Date=Y Year=L7" noLimits 0 ∷
+    text "Basic=Date Date=Y Year=L8" noLimits 0 ∷
+    text "Basic=Date Date=Y Year=L9" noLimits 0 ∷
+    text "Basic=Date-Time Date=YWD Year=L9 Time=HMSF9 Local-or-UTC=LD" noLimits 0 ∷
+    text "Basic=Date Date=Y Year=L4" noLimits 1 ∷
+    text "Basic=Date Date=Y Year=L10" noLimits 1 ∷
+    text "Basic=Date Date=Y Year=L05" noLimits 1 ∷
+    text "Basic=Date Date=Y Year=L66" noLimits 1 ∷
+    text "Basic=Date Date=Y Year=L" noLimits 1 ∷
+    text "Basic=Date Date=Y Year=L6L" noLimits 1 ∷
+    text "Basic=Date Date=Y Year=l6" noLimits 1 ∷
+    text "Basic=Date Date=Y Year=LL6" noLimits 1 ∷
+    text "Basic=Date Date=Y Year=L 6" noLimits 1 ∷
+    text "Basic=Date Date=Y Year=6" noLimits 1 ∷
+    text "Basic=Date Date=Y Year=-6" noLimits 1 ∷
+    text "Basic=Date Date=Y Year=N6" noLimits 1 ∷
+    -- "up to six lists that differ only in Year, all of one row", in any order of lists and pairs
+    text "Basic=Date Date=Y Year=Negative|Basic=Date Date=Y Year=L9" noLimits 0 ∷
+    text "Basic=Date Date=Y Year=L9|Basic=Date Date=Y Year=Negative" noLimits 0 ∷
+    text "Basic=Date Date=Y Year=L6|Basic=Date Date=Y Year=L7" noLimits 0 ∷
+    text "Basic=Date Date=Y Year=L8|Basic=Date Date=Y Year=L5" noLimits 0 ∷
+    text "Basic=Date Date=Y Year=L7|Year=Negative Date=Y Basic=Date|Basic=Date Date=Y Year=L5" noLimits 0 ∷
+    text "Basic=Date Date=Y Year=L6|Basic=Date Date=Y Year=L9|Basic=Date Date=Y Year=L5|Basic=Date Date=Y Year=L7" noLimits 0 ∷
+    text "Basic=Date Date=Y Year=L9|Basic=Date Date=Y Year=L8|Basic=Date Date=Y Year=L7|Basic=Date Date=Y Year=L6|Basic=Date Date=Y Year=L5" noLimits 0 ∷
+    text "Basic=Date Date=Y Year=Negative|Basic=Date Date=Y Year=L5|Basic=Date Date=Y Year=L6|Basic=Date Date=Y Year=L7|Basic=Date Date=Y Year=L8|Basic=Date Date=Y Year=L9"
+    noLimits 0 ∷
+    text "Basic=Date Date=Y Year=L9|Basic=Date Date=Y Year=L8|Basic=Date Date=Y Year=L7|Basic=Date Date=Y Year=L6|Basic=Date Date=Y Year=L5|Basic=Date Date=Y Year=Negative"
+    noLimits 0 ∷
+    text "Basic=Date Date=Y Year=L8|Date=Y Year=L5 Basic=Date|Basic=Date Date=Y Year=Negative|Basic=Date Date=Y Year=L9|Basic=Date Date=Y Year=L6|Year=L7 Basic=Date Date=Y"
+    noLimits 0 ∷
+    text "Basic=Date-Time Date=YD Year=Negative Time=HMSF3 Local-or-UTC=Z|Basic=Date-Time Date=YD Year=L5 Time=HMSF3 Local-or-UTC=Z|Basic=Date-Time Date=YD Year=L6 Time=HMSF3 Local-or-UTC=Z|Basic=Date-Time Date=YD Year=L7 Time=HMSF3 Local-or-UTC=Z|Basic=Date-Time Date=YD Year=L8 Time=HMSF3 Local-or-UTC=Z|Basic=Date-Time Date=YD Year=L9 Time=HMSF3 Local-or-UTC=Z"
+    bothLimits 0 ∷
+    text "Basic=Date Date=Y Year=Negative|Basic=Date Date=Y Year=L5|Basic=Date Date=Y Year=L6|Basic=Date Date=Y Year=L7|Basic=Date Date=Y Year=L8|Basic=Date Date=Y Year=L9"
+    from2000 0 ∷
+    -- "more than six lists", whatever the seventh: of another row, a repeat, unreadable, empty
+    text "Basic=Date Date=Y Year=Negative|Basic=Date Date=Y Year=L5|Basic=Date Date=Y Year=L6|Basic=Date Date=Y Year=L7|Basic=Date Date=Y Year=L8|Basic=Date Date=Y Year=L9|Basic=Date Date=Y Year=Basic"
+    noLimits 1 ∷
+    text "Basic=Date Date=Y Year=Negative|Basic=Date Date=Y Year=L5|Basic=Date Date=Y Year=L6|Basic=Date Date=Y Year=L7|Basic=Date Date=Y Year=L8|Basic=Date Date=Y Year=L9|Basic=Date Date=Y Year=L6"
+    noLimits 1 ∷
+    text "Basic=Date Date=Y Year=Negative|Basic=Date Date=Y Year=L5|Basic=Date Date=Y Year=L6|Basic=Date Date=Y Year=L7|Basic=Date Date=Y Year=L8|Basic=Date Date=Y Year=L9|Basic=Date Date=Y Year=L10"
+    noLimits 1 ∷
+    text "Basic=Date Date=Y Year=Negative|Basic=Date Date=Y Year=L5|Basic=Date Date=Y Year=L6|Basic=Date Date=Y Year=L7|Basic=Date Date=Y Year=L8|Basic=Date Date=Y Year=L9|"
+    noLimits 1 ∷
+    text "Basic=Date Date=Y Year=Negative|Basic=Date Date=Y Year=L5|Basic=Date Date=Y Year=L6|Basic=Date Date=Y Year=L7|Basic=Date Date=Y Year=L8|Basic=Date Date=Y Year=L9|Basic=Date Date=YM Year=L9"
+    noLimits 1 ∷
+    text "Basic=Date Date=Y Year=Negative|Basic=Date Date=Y Year=L5|Basic=Date Date=Y Year=L6|Basic=Date Date=Y Year=L7|Basic=Date Date=Y Year=L8|Basic=Date Date=Y Year=L9|DATE"
+    noLimits 1 ∷
+    text "Basic=Date Date=Y Year=Basic|Basic=Date Date=Y Year=Negative|Basic=Date Date=Y Year=L5|Basic=Date Date=Y Year=L6|Basic=Date Date=Y Year=L7|Basic=Date Date=Y Year=L8|Basic=Date Date=Y Year=L9"
+    noLimits 1 ∷
+    text "Basic=Date Date=Y Year=Negative|Basic=Date Date=Y Year=L5|Basic=Date Date=Y Year=L6|Basic=Date Date=Y Year=L7|Basic=Date Date=Y Year=L8|Basic=Date Date=Y Year=L9|Basic=Date Date=Y Year=Basic|Basic=Date Date=Y Year=Proleptic"
+    noLimits 1 ∷
+    -- "a Year twice in otherwise equal lists": every two lists are compared, and before any other difference
+    text "Basic=Date Date=Y Year=L6|Basic=Date Date=Y Year=L7|Basic=Date Date=Y Year=L7" noLimits 1 ∷
+    text "Basic=Date Date=Y Year=L6|Basic=Date Date=Y Year=L7|Basic=Date Date=Y Year=L6" noLimits 1 ∷
+    text "Basic=Date Date=Y Year=L6|Basic=Date Date=Y Year=L6|Basic=Date Date=Y Year=L7" noLimits 1 ∷
+    text "Basic=Date Date=Y Year=Basic|Basic=Date Date=Y Year=Proleptic|Basic=Date Date=Y Year=Basic" noLimits 1 ∷
+    text "Basic=Date Date=Y Year=Basic|Basic=Date Date=Y Year=L9|Basic=Date Date=Y Year=L9" noLimits 1 ∷
+    text "Basic=Date Date=Y Year=Basic|Basic=Date Date=YM Year=L9|Basic=Date Date=YM Year=L9" noLimits 1 ∷
+    text "Basic=Date Date=Y Year=Basic|Basic=Date Date=YM Year=L9|Basic=Date Date=Y Year=Basic" noLimits 1 ∷
+    text "Basic=Date Date=Y Year=Basic|Basic=Date Date=YM Year=L9|Basic=Date Date=Y Year=Basic|Basic=Date Date=YM Year=L9" noLimits 1 ∷
+    text "Basic=Date Date=Y Year=L5|Basic=Date Date=Y Year=L6|Basic=Date Date=Y Year=L7|Basic=Date Date=Y Year=L8|Basic=Date Date=Y Year=L9|Basic=Date Date=Y Year=L5"
+    noLimits 1 ∷
+    text "Basic=Time Time=H Local-or-UTC=L|Basic=Date Date=Y Year=L5|Basic=Time Time=H Local-or-UTC=L" noLimits 1 ∷
+    -- "2 for any other difference"
+    text "Basic=Date Date=Y Year=L5|Basic=Date Date=Y Year=L6|Basic=Date Date=Y Year=Basic" noLimits 2 ∷
+    text "Basic=Date Date=Y Year=Basic|Basic=Date Date=Y Year=Proleptic|Basic=Date Date=Y Year=L9" noLimits 2 ∷
+    text "Basic=Date Date=Y Year=Basic|Basic=Date Date=Y Year=Proleptic|Basic=Date Date=Y Year=Negative" noLimits 2 ∷
+    text "Basic=Date Date=Y Year=Proleptic|Basic=Date Date=Y Year=L6" noLimits 2 ∷
+    text "Basic=Date Date=Y Year=L9|Basic=Date Date=Y Year=Basic" noLimits 2 ∷
+    text "Basic=Date Date=Y Year=L6|Basic=Date Date=Y Year=L7|Basic=Date Date=YM Year=L6" noLimits 2 ∷
+    text "Basic=Date Date=Y Year=L6|Basic=Date Date=YM Year=L6" noLimits 2 ∷
+    text "Basic=Date Date=Y Year=L6|Basic=Date Date=YM Year=L7" noLimits 2 ∷
+    text "Basic=Date Date=Y Year=Negative|Basic=Date Date=Y Year=L5|Basic=Date Date=Y Year=L6|Basic=Date Date=Y Year=L7|Basic=Date Date=Y Year=L8|Basic=Date Date=Y Year=Basic"
+    noLimits 2 ∷
+    text "Basic=Date Date=Y Year=Basic|Basic=Date Date=YM Year=Basic|Basic=Date Date=YD Year=Basic" noLimits 2 ∷
+    text "Basic=Date Date=Y Year=L5|Basic=Date-Time Date=Y Year=L6 Time=H Local-or-UTC=L" noLimits 2 ∷
+    text "Basic=Date Date=Y Year=L5|Basic=Date Date=Y Year=L6|Basic=Time Time=H Local-or-UTC=L" noLimits 2 ∷
+    text "Basic=Time Time=H Local-or-UTC=L|Basic=Time Time=HM Local-or-UTC=L|Basic=Time Time=HMS Local-or-UTC=L" noLimits 2 ∷
+    -- a limit out of place in any list, and an unreadable list, before it
+    text "Basic=Date Date=Y Year=L5|Basic=Date Date=Y Year=L6|Basic=Time Time=H Local-or-UTC=L" from2000 1 ∷
+    text "Basic=Date Date=Y Year=L5|Basic=Date Date=Y Year=L6|Basic=Time Time=H Local-or-UTC=L" noHour24 1 ∷
+    text "Basic=Time Time=H Local-or-UTC=L|Basic=Time Time=HM Local-or-UTC=L|Basic=Date Date=Y Year=L5" noHour24 1 ∷
+    text "Basic=Date Date=Y Year=L5|Basic=Date Date=Y Year=Basic|Basic=Date Date=Y Year=L10" noLimits 1 ∷
+    text "Basic=Date Date=Y Year=L5|Basic=Date Date=Y Year=Basic|" noLimits 1 ∷
+    text "Basic=Date Date=Y Year=L5|Basic=Date Date=Y Year=L6|Basic=Date Date=Y Year=Basic" from2000 2 ∷
     -- durations: the name, and the settings in either order
     text "DURATION" noLimits 0 ∷
     text "Basic=Interval Interval-type=D" noLimits 0 ∷
@@ -216,7 +302,7 @@ texts =
     text "Basic=Time Time=H|Basic=Interval Interval-type=D" noLimits 1 ∷
     text "Basic=Interval Interval-type=D|Basic=Interval" noLimits 1 ∷
     text "Basic=Interval|Basic=Interval Interval-type=D" noLimits 1 ∷
-    text "Basic=Interval Interval-type=D|Basic=Date Date=Y Year=Basic|Basic=Time Time=H Local-or-UTC=L" noLimits 1 ∷
+    text "Basic=Interval Interval-type=D|Basic=Date Date=Y Year=Basic|Basic=Time Time=H Local-or-UTC=L" noLimits 2 ∷
     text "Basic=Interval Interval-type=D|Basic=Date Date=Y Year=Basic" from2000 1 ∷
     text "Basic=Date Date=Y Year=Basic|Basic=Interval Interval-type=D" from2000 1 ∷
     text "Basic=Interval Interval-type=D|Basic=Time Time=H Local-or-UTC=L" from2000 1 ∷
@@ -261,8 +347,8 @@ textsRight [] = true
 textsRight (text s limits number ∷ l) = eqb (typeNumber (typeOf limits (bytes s))) number && textsRight l
 
 texts-checked : textsRight texts ≡ true
-unfolding texts textsRight typeOf joined listType pointType timeAt yearsOf member usable distinct allOf equalLists oneRow yearFamily sameButYear listsOf listOf
-    completed complete timedList datedList intervalList addPairs addPair splitOn pairOf fractionNumber placeFrom limitedTo placed zoneAt clockAt dateAt eqList
+unfolding texts textsRight typeOf joined listType pointType timeAt yearsOf member usable distinct allOf equalLists oneRow sameButYear listsOf listOf
+    completed complete timedList datedList intervalList addPairs addPair splitOn pairOf fractionNumber placeFrom limitedTo placed zoneAt clockAt dateAt yearSettingAt eqList
 texts-checked = refl
 
 -- two types, with limits or without, and whether they select the same rows
@@ -279,6 +365,27 @@ pairs =
     pair "Basic=Date Date=Y Year=Negative" "Basic=Date Date=Y Year=L5" true ∷
     pair "Basic=Date Date=Y Year=Negative|Basic=Date Date=Y Year=L5" "Basic=Date Date=Y Year=Proleptic" false ∷
     pair "DATE" "Basic=Date Date=YD Year=Basic" false ∷
+    -- all Years with a sign are of one row (#103)
+    pair "Basic=Date Date=Y Year=Negative" "Basic=Date Date=Y Year=L5" true ∷
+    pair "Basic=Date Date=Y Year=Negative" "Basic=Date Date=Y Year=Proleptic" false ∷
+    pair "Basic=Date Date=Y Year=L5" "Basic=Date Date=Y Year=L6" true ∷
+    pair "Basic=Date Date=Y Year=L5" "Basic=Date Date=Y Year=Proleptic" false ∷
+    pair "Basic=Date Date=Y Year=L6" "Basic=Date Date=Y Year=L7" true ∷
+    pair "Basic=Date Date=Y Year=L6" "Basic=Date Date=Y Year=Proleptic" false ∷
+    pair "Basic=Date Date=Y Year=L7" "Basic=Date Date=Y Year=L8" true ∷
+    pair "Basic=Date Date=Y Year=L7" "Basic=Date Date=Y Year=Proleptic" false ∷
+    pair "Basic=Date Date=Y Year=L8" "Basic=Date Date=Y Year=L9" true ∷
+    pair "Basic=Date Date=Y Year=L8" "Basic=Date Date=Y Year=Proleptic" false ∷
+    pair "Basic=Date Date=Y Year=L9" "Basic=Date Date=Y Year=Negative" true ∷
+    pair "Basic=Date Date=Y Year=L9" "Basic=Date Date=Y Year=Proleptic" false ∷
+    pair "Basic=Date Date=Y Year=Negative|Basic=Date Date=Y Year=L5|Basic=Date Date=Y Year=L6|Basic=Date Date=Y Year=L7|Basic=Date Date=Y Year=L8|Basic=Date Date=Y Year=L9"
+    "Basic=Date Date=Y Year=L7" true ∷
+    pair "Basic=Date Date=Y Year=Negative" "Basic=Date Date=Y Year=L9|Basic=Date Date=Y Year=L6|Basic=Date Date=Y Year=L8" true ∷
+    pair "Basic=Date Date=Y Year=Negative|Basic=Date Date=Y Year=L5|Basic=Date Date=Y Year=L6|Basic=Date Date=Y Year=L7|Basic=Date Date=Y Year=L8|Basic=Date Date=Y Year=L9"
+    "Basic=Date Date=Y Year=Basic|Basic=Date Date=Y Year=Proleptic" false ∷
+    pair "Basic=Date Date=Y Year=Negative|Basic=Date Date=Y Year=L5|Basic=Date Date=Y Year=L6|Basic=Date Date=Y Year=L7|Basic=Date Date=Y Year=L8|Basic=Date Date=Y Year=L9"
+    "Basic=Date Date=YM Year=L7" false ∷
+    pair "DATE" "Basic=Date Date=YMD Year=L9" false ∷
     pair "TIME-OF-DAY" "Basic=Time Time=HMS Local-or-UTC=L" true ∷
     pair "Basic=Time Time=HMSF3 Local-or-UTC=L" "Basic=Time Time=HMSF5 Local-or-UTC=L" true ∷
     pair "TIME-OF-DAY" "Basic=Time Time=HMSF3 Local-or-UTC=L" false ∷
@@ -352,9 +459,9 @@ pairsRight (pair s t expected ∷ l) = alike (typeOf noLimits (bytes s)) (typeOf
 pairsRight (limited s m t n expected ∷ l) = alike (typeOf m (bytes s)) (typeOf n (bytes t)) expected && pairsRight l
 
 pairs-checked : pairsRight pairs ≡ true
-unfolding pairs pairsRight alike timeNumber sameRow sameRows typeOf joined listType timeAt yearsOf member usable distinct allOf equalLists oneRow yearFamily
+unfolding pairs pairsRight alike timeNumber sameRow sameRows typeOf joined listType timeAt yearsOf member usable distinct allOf equalLists oneRow
     pointType sameButYear listsOf listOf completed complete timedList datedList intervalList addPairs addPair splitOn pairOf fractionNumber placeFrom
-    limitedTo placed zoneAt clockAt dateAt eqList
+    limitedTo placed zoneAt clockAt dateAt yearSettingAt eqList
 pairs-checked = refl
 
 -- a type, and the number of its fraction digits
@@ -385,7 +492,7 @@ digitsRight [] = true
 digitsRight (count s n ∷ l) = has (typeOf noLimits (bytes s)) n && digitsRight l
 
 digits-checked : digitsRight digits ≡ true
-unfolding digits digitsRight has typeOf joined listType timeAt yearsOf member usable distinct allOf equalLists oneRow yearFamily sameButYear listsOf listOf
+unfolding digits digitsRight has typeOf joined listType timeAt yearsOf member usable distinct allOf equalLists oneRow sameButYear listsOf listOf
     pointType completed complete timedList datedList intervalList addPairs addPair splitOn pairOf fractionNumber placeFrom limitedTo placed zoneAt clockAt
-    dateAt eqList
+    dateAt yearSettingAt eqList
 digits-checked = refl

@@ -1,4 +1,4 @@
--- Completeness: every well-formed type is read from its settings, their pairs in any order.
+-- Completeness: every well-formed type is read from its settings, its lists in any order and the pairs of each in any order.
 use mathlib.Core.Path.{_≡_, refl, ap, sym, _∙_}
 use mathlib.Core.List.{List, [], _∷_, map, List·Permᴰ, Permᴰ·refl}
 use mathlib.Core.Bool.{Bool, true, false, cond, and-eq-true-iff, or-true}
@@ -11,11 +11,13 @@ use Rattle.types.proofs.Laws.Limits.{carrying-kept}
 use Rattle.types.proofs.Laws.WellFormed.{well-settings}
 use Rattle.types.specs.AnyTypes.{DURATION, carrying, datedType, limitedTo, limitsOf, timedType, wellFormed}
 use Rattle.types.specs.Types as Points
-use Rattle.types.specs.Types.{listed, DATE, TIME-OF-DAY, DATE-TIME, everyYear, hasDate, hasTime, placed, restricted, someYear, fewDigits}
+use Rattle.types.specs.Types.{listed, DATE, TIME-OF-DAY, DATE-TIME, everyYear, hasDate, hasTime, placed, restricted, fewDigits}
 use Rattle.types.specs.Types.{wellParts, partsOf}
+use Rattle.types.specs.Years.{someYear}
+use Rattle.types.specs.declared.years.YearSetting.{YearSetting}
 use Rattle.type_texts.specs.TypeTexts.{allOf, joined, typeOf}
-use Rattle.type_texts.specs.Written.{YearSetting, basic, datePairs, timePairs, dateTimePairs, durationPairs, namedYears, listsFor, joinWith, typeText}
-use Rattle.type_texts.specs.Written.{Arranged, end, more, listedType, listsForType}
+use Rattle.type_texts.specs.Written.{datePairs, timePairs, dateTimePairs, durationPairs, keep, namedYears, listsFor, joinWith, typeText}
+use Rattle.type_texts.specs.Written.{Arranged, InAnyOrder, end, more, listedType, listsForType}
 use Rattle.texts.specs.declared.forms.DateForm.{DateForm}
 use Rattle.texts.specs.declared.forms.TimeForm.{TimeForm}
 use Rattle.types.specs.declared.types.AnyType.{AnyType}
@@ -55,34 +57,34 @@ duration-text = list-text durationPairs durationList (omega arith) (rw (basic-wo
 -- The lists of at least one Year are read and joined.
 some-read : (f : YearSetting → List (List ℕ)) (g : YearSetting → Settings) →
     ((y : YearSetting) (ws : List (List ℕ)) → List·Permᴰ ws (f y) → ListText ws (g y)) →
-    (limits : Limits) (ys : List YearSetting) → 0 < length ys → {wss : List (List (List ℕ))} → Arranged wss (map f ys) →
+    (limits : Limits) (ys : List YearSetting) → (y : YearSetting) × (zs : List YearSetting) × (ys ≡ y ∷ zs) → {wss : List (List (List ℕ))} →
+    InAnyOrder wss (map f ys) →
     typeOf limits (typeText wss) ≡ joined limits (map g ys)
-some-read f g k limits [] h r = absurd (omega arith)
-some-read f g k limits (y ∷ ys) h r = text-read f g k limits y ys r
+some-read f g k limits ys (y, zs, e) o = text-read f g k limits y zs (rw e at o) ∙ ap (λ (l : List YearSetting). joined limits (map g l)) (sym e)
 
 few : (t : TimeType) → fewDigits t ≡ true → t .form .digits ≤ 9
 few t h = leb-true (t .form .digits) 9 h
 
 parts-read : (limits : Limits) (p : Parts) → wellParts p ≡ true → {wss : List (List (List ℕ))} →
-    Arranged wss (listsFor p) →
+    InAnyOrder wss (listsFor p) →
     typeOf limits (typeText wss) ≡ limitedTo limits (AnyType.Point (listed p))
 parts-read limits (Parts.Date d) h r =
     some-read _ _ (date-text (d .form)) limits (namedYears (d .years)) (some-named (d .years) h) r ∙ date-joined limits d h
 parts-read limits (Parts.Time t) h r =
-    text-read (λ y. timePairs (t .form)) (λ y. timeList (t .form)) (λ y. time-text (t .form) (few t h)) limits basic [] r ∙ time-joined limits t
+    text-read (λ y. timePairs (t .form)) (λ y. timeList (t .form)) (λ y. time-text (t .form) (few t h)) limits YearSetting.Basic [] r ∙ time-joined limits t
 parts-read limits (Parts.DateTime d t) h r =
     let p : (someYear (d .years) ≡ true) × (fewDigits t ≡ true) = and-eq-true-iff _ _ .0 h in
     some-read _ _ (date-time-text (d .form) (t .form) (few t (p .1))) limits (namedYears (d .years)) (some-named (d .years) (p .0)) r
     ∙ date-time-joined limits d t (p .0)
 
-duration-read : (limits : Limits) {wss : List (List (List ℕ))} → Arranged wss (durationPairs ∷ []) →
+duration-read : (limits : Limits) {wss : List (List (List ℕ))} → InAnyOrder wss (durationPairs ∷ []) →
     typeOf limits (typeText wss) ≡ limitedTo limits AnyType.ListedDuration
-duration-read limits r = text-read (λ y. durationPairs) (λ y. durationList) (λ y. duration-text) limits basic [] r ∙ duration-joined limits
+duration-read limits r = text-read (λ y. durationPairs) (λ y. durationList) (λ y. duration-text) limits YearSetting.Basic [] r ∙ duration-joined limits
 
 -- The settings of a type, in any order and under any limits, give that type under these limits, or 1 where they have
 -- no place.
 pub settings-read : (limits : Limits) (t : AnyType) → wellFormed t ≡ true → {wss : List (List (List ℕ))} →
-    Arranged wss (listsForType t) →
+    InAnyOrder wss (listsForType t) →
     typeOf limits (typeText wss) ≡ limitedTo limits (listedType t)
 settings-read limits (AnyType.Point t) h r = parts-read limits (partsOf t) (well-settings t h) r
 settings-read limits AnyType.Duration h r = duration-read limits r
@@ -108,7 +110,7 @@ own-limits AnyType.ListedDuration = refl
 
 -- Every well-formed type is read from its settings, in any order, with its own limits; what was a name is then listed.
 pub complete : (t : AnyType) → wellFormed t ≡ true → {wss : List (List (List ℕ))} →
-    Arranged wss (listsForType t) →
+    InAnyOrder wss (listsForType t) →
     typeOf (limitsOf t) (typeText wss) ≡ TypeRead.«Type» (listedType t)
 complete t h r = settings-read (limitsOf t) t h r ∙ own-limits t
 
@@ -122,14 +124,17 @@ listed-placed limits AnyType.ListedDuration k = rw k
 -- Every well-formed type under limits that have their place is read from its settings, in any order, with these limits.
 pub complete-limited : (limits : Limits) (t : AnyType) → wellFormed t ≡ true →
     placed limits (datedType t) (timedType t) ≡ true → {wss : List (List (List ℕ))} →
-    Arranged wss (listsForType t) →
+    InAnyOrder wss (listsForType t) →
     typeOf limits (typeText wss) ≡ TypeRead.«Type» (carrying limits (listedType t))
 complete-limited limits t h k r = settings-read limits t h r ∙ listed-placed limits t k
 
--- Pairs may stand in their own order.
-pub in-order : (wss : List (List (List ℕ))) → Arranged wss wss
-in-order [] = end
-in-order (ws ∷ wss) = more (Permᴰ·refl ws) (in-order wss)
+same-pairs : (wss : List (List (List ℕ))) → Arranged wss wss
+same-pairs [] = end
+same-pairs (ws ∷ wss) = more (Permᴰ·refl ws) (same-pairs wss)
+
+-- Lists and pairs may stand in their own order.
+pub in-order : (wss : List (List (List ℕ))) → InAnyOrder wss wss
+in-order wss = record { lists = wss; of-lists = Permᴰ·refl wss; of-pairs = same-pairs wss }
 
 -- What was read, where a type is listed as settings in place of its name.
 abbrev pub relisted : TypeRead → TypeRead
@@ -166,7 +171,7 @@ pub name-settings : (limits : Limits) →
     × (typeOf limits (bytes "Basic=Time Time=HMS Local-or-UTC=L") ≡ relisted (typeOf limits (bytes "TIME-OF-DAY")))
     × (typeOf limits (bytes "Basic=Date-Time Date=YMD Year=Basic Time=HMS Local-or-UTC=L") ≡ relisted (typeOf limits (bytes "DATE-TIME")))
     × (typeOf limits (bytes "Basic=Interval Interval-type=D") ≡ relisted (typeOf limits (bytes "DURATION")))
-unfolding typeOf eqList typeText joinWith
+unfolding typeOf eqList typeText joinWith keep
 name-settings limits = (
   named (AnyType.Point DATE) refl,
   named (AnyType.Point TIME-OF-DAY) refl,

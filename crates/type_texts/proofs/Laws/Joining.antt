@@ -1,6 +1,6 @@
 -- Pieces joined by an octet that none of them has are split there again.
 use mathlib.Core.Path.{_≡_, refl, ap, _∙_}
-use mathlib.Core.List.{List, [], _∷_, _++_, List·Permᴰ, List·Permᴰ·nil, List·Permᴰ·cons, List·Permᴰ·swap, List·Permᴰ·trans}
+use mathlib.Core.List.{List, [], _∷_, _++_, map, List·Permᴰ, List·Permᴰ·nil, List·Permᴰ·cons, List·Permᴰ·swap, List·Permᴰ·trans}
 use mathlib.Core.Bool.{Bool, true, false, _&&_, not, and-eq-true-iff, true≢false}
 use Prim.Native.Nat.{ℕ, suc}
 use lib.Dec.{eqb}
@@ -97,3 +97,10 @@ length-perm List·Permᴰ·nil = refl
 length-perm (List·Permᴰ·cons e d) = ap suc (length-perm d)
 length-perm (List·Permᴰ·swap e g) = refl
 length-perm (List·Permᴰ·trans d e) = length-perm d ∙ length-perm e
+
+-- What is made of pieces in any order is in the same order.
+pub perm-map : {A B : Type 0} (f : A → B) {a b : List A} → List·Permᴰ a b → List·Permᴰ (map f a) (map f b)
+perm-map f List·Permᴰ·nil = List·Permᴰ·nil
+perm-map f (List·Permᴰ·cons e d) = List·Permᴰ·cons (ap f e) (perm-map f d)
+perm-map f (List·Permᴰ·swap e g) = List·Permᴰ·swap (ap f e) (ap f g)
+perm-map f (List·Permᴰ·trans d e) = List·Permᴰ·trans (perm-map f d) (perm-map f e)

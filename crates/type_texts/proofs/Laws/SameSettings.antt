@@ -1,28 +1,27 @@
 -- Two lists that can be read: when they are equal, and when they are one row, in words of their settings alone.
-use mathlib.Core.Path.{_≡_, refl, sym, _∙_, subst}
-use mathlib.Core.Logic.{_⊎_, inl, inr}
+use mathlib.Core.Path.{_≡_, refl, ap, sym, _∙_, subst}
+use mathlib.Core.Logic.{_⊎_, _≢_, inl, inr}
 use mathlib.Core.List.{List, [], _∷_}
 use mathlib.Core.Bool.{Bool, true, false, _&&_, and-eq-true-iff, false≢true}
 use Prim.Native.Nat.{ℕ}
 use native.Mathlib.Omega.{arith}
 use lib.Dec.{eqb}
-use borrow.Author.Tests.{eq-eqb, eqb-true}
+use borrow.Author.Tests.{eq-eqb, eqb-false, eqb-true}
 use Rattle.lists.specs.Lists.{settings, basicIn, dateIn, yearIn, timeIn, zoneIn, intervalIn, datedList, listOf}
 use Rattle.lists.specs.declared.lists.Settings.{Settings}
-use Rattle.type_texts.specs.TypeTexts.{equalLists, oneRow, sameButYear, yearFamily}
-use Rattle.type_texts.specs.Written.{YearSetting, basic, proleptic, negative, five}
+use Rattle.types.specs.Years.{rowNumber, rowOfYear, yearSettingAt, yearNumber}
+use Rattle.types.specs.declared.years.YearSetting.{YearSetting}
+use Rattle.types.proofs.Laws.Years.{year-back}
+use Rattle.type_texts.specs.TypeTexts.{equalLists, oneRow, rowIn, sameButYear}
 use Rattle.type_texts.proofs.Laws.Arranged.{ListOf, a-date, a-time, a-date-time, a-duration, list-arranged}
 use Rattle.type_texts.proofs.Laws.Tests.{five-hold}
-use Rattle.type_texts.proofs.Laws.Written.{yearNumber}
+use Rattle.type_texts.proofs.Laws.ListOrder.{one-number}
 
--- "Basic with Proleptic or Negative with L5", in either order.
+-- "all of one row, no Year twice" (#103): Basic with Proleptic, or two of Negative and L5 to L9, in either order.
 pub data YearPair : ℕ → ℕ → Type 0 where
-  basic-proleptic : YearPair (yearNumber basic) (yearNumber proleptic)
-  proleptic-basic : YearPair (yearNumber proleptic) (yearNumber basic)
-  negative-five : YearPair (yearNumber negative) (yearNumber five)
-  five-negative : YearPair (yearNumber five) (yearNumber negative)
+  of-row : (x y : YearSetting) → rowOfYear x ≡ rowOfYear y → x ≢ y → YearPair (yearNumber x) (yearNumber y)
 
--- "Two lists may differ only in Year, and then only as Basic with Proleptic or Negative with L5; such a pair is one row of Table 2."
+-- "lists that differ only in Year, all of one row, no Year twice" (#103).
 pub record OnlyYears (s t : Settings) : Type 0 where
   pub basic-is : basicIn s ≡ basicIn t
   pub date-is : dateIn s ≡ dateIn t
@@ -91,7 +90,7 @@ module _ (a b : List ℕ) (h : listOf a .readable ≡ true) (k : listOf b .reada
 
 -- ---- One row.
 
--- The Year of a list that can be read: one of the four where there is a date, and otherwise none.
+-- The Year of a list that can be read: one where there is a date, and otherwise none.
 data YearOf (s : Settings) : Type 0 where
   no-year : datedList s ≡ false → yearIn s ≡ 0 → YearOf s
   a-year : (y : YearSetting) → datedList s ≡ true → yearIn s ≡ yearNumber y → YearOf s
@@ -107,35 +106,22 @@ dated-same : (s t : Settings) → basicIn s ≡ basicIn t → datedList s ≡ da
 unfolding datedList
 dated-same s t e = rw e
 
--- Two Years of one family are one, or such a pair.
-family : (x y : YearSetting) → eqb (yearFamily (yearNumber x)) (yearFamily (yearNumber y)) ≡ true
+-- Two Years of one row are one, or such a pair.
+family : (x y : YearSetting) → eqb (rowNumber (rowOfYear (yearSettingAt (yearNumber x)))) (rowNumber (rowOfYear (yearSettingAt (yearNumber y)))) ≡ true
     → (yearNumber x ≡ yearNumber y) ⊎ YearPair (yearNumber x) (yearNumber y)
-unfolding yearFamily
-family basic basic e = inl refl
-family basic proleptic e = inr basic-proleptic
-family basic negative e = absurd (false≢true e)
-family basic five e = absurd (false≢true e)
-family proleptic basic e = inr proleptic-basic
-family proleptic proleptic e = inl refl
-family proleptic negative e = absurd (false≢true e)
-family proleptic five e = absurd (false≢true e)
-family negative basic e = absurd (false≢true e)
-family negative proleptic e = absurd (false≢true e)
-family negative negative e = inl refl
-family negative five e = inr negative-five
-family five basic e = absurd (false≢true e)
-family five proleptic e = absurd (false≢true e)
-family five negative e = inr five-negative
-family five five e = inl refl
+family x y e = go (eqb (yearNumber x) (yearNumber y)) refl
+  where
+    row : rowOfYear x ≡ rowOfYear y
+    row = one-number _ _ (eqb-true (rowNumber (rowOfYear x)) (rowNumber (rowOfYear y)) (rw (year-back x, year-back y) at e))
 
-family-of : (m n : ℕ) → YearPair m n → eqb (yearFamily m) (yearFamily n) ≡ true
-unfolding yearFamily
-family-of m n basic-proleptic = refl
-family-of m n proleptic-basic = refl
-family-of m n negative-five = refl
-family-of m n five-negative = refl
+    go : (b : Bool) → eqb (yearNumber x) (yearNumber y) ≡ b → (yearNumber x ≡ yearNumber y) ⊎ YearPair (yearNumber x) (yearNumber y)
+    go true h = inl (eqb-true _ _ h)
+    go false h = inr (of-row x y row (λ z. eqb-false _ _ h (ap yearNumber z)))
 
--- Lists that differ only in Year, as Basic with Proleptic or Negative with L5, are one row.
+family-of : (m n : ℕ) → YearPair m n → eqb (rowNumber (rowOfYear (yearSettingAt m))) (rowNumber (rowOfYear (yearSettingAt n))) ≡ true
+family-of m n (of-row x y e d) = rw (year-back x, year-back y) (eq-eqb (rowNumber (rowOfYear x)) (rowNumber (rowOfYear y)) (ap rowNumber e))
+
+-- Lists that differ only in Year, in two Years of one row, are one row.
 pub only-years-row : (s t : Settings) → OnlyYears s t → oneRow s t ≡ true
 unfolding oneRow sameButYear
 only-years-row s t o =
@@ -148,7 +134,7 @@ only-years-row s t o =
       family-of _ _ (o .years-are),
     )
 
-one-row-years : (s t : Settings) → YearOf s → YearOf t → basicIn s ≡ basicIn t → eqb (yearFamily (yearIn s)) (yearFamily (yearIn t)) ≡ true
+one-row-years : (s t : Settings) → YearOf s → YearOf t → basicIn s ≡ basicIn t → eqb (rowNumber (rowIn s)) (rowNumber (rowIn t)) ≡ true
     → (yearIn s ≡ yearIn t) ⊎ YearPair (yearIn s) (yearIn t)
 one-row-years s t (no-year b y) (no-year c z) e f = inl (y ∙ sym z)
 one-row-years s t (no-year b y) (a-year v c z) e f = absurd (false≢true (sym b ∙ dated-same s t e ∙ c))
@@ -156,11 +142,11 @@ one-row-years s t (a-year u b y) (no-year c z) e f = absurd (false≢true (sym c
 one-row-years s t (a-year u b y) (a-year v c z) e f = rw (y, z) (family u v (rw (y, z) at f))
 
 module _ (a b : List ℕ) (h : listOf a .readable ≡ true) (k : listOf b .readable ≡ true) where
-  -- Two lists that can be read are one row only where they are the same, or differ only in Year, as Basic with Proleptic or Negative with L5.
+  -- Two lists that can be read are one row only where they are the same, or differ only in Year, in two Years of one row.
   pub row-only-years : oneRow (listOf a) (listOf b) ≡ true → (listOf a ≡ listOf b) ⊎ OnlyYears (listOf a) (listOf b)
   unfolding oneRow equalLists
   row-only-years e =
-      let p = and-eq-true-iff (sameButYear (listOf a) (listOf b)) (eqb (yearFamily (yearIn (listOf a))) (yearFamily (yearIn (listOf b)))) .0 e in
+      let p = and-eq-true-iff (sameButYear (listOf a) (listOf b)) (eqb (rowNumber (rowIn (listOf a))) (rowNumber (rowIn (listOf b)))) .0 e in
       let q = but-year (listOf a) (listOf b) (p .0) in
       go (p .0) q (one-row-years (listOf a) (listOf b) (year-of _ _ (list-arranged a h)) (year-of _ _ (list-arranged b k)) (q .basic-same) (p .1))
     where

@@ -7,19 +7,24 @@ use native.Mathlib.Omega.{arith}
 use lib.Dec.{eqb, ltb, leb}
 use lib.ListN.{length, getD, set, take, length-set}
 use lib.Seq.{getD-set-same, getD-set-other}
-use borrow.Author.Tests.{leb-true, le-leb, eqb-true, eqb-false, not-true}
+use borrow.Author.Tests.{leb-true, le-leb, eq-eqb, eqb-true, eqb-false, not-true}
 use Rattle.octets.specs.Octets.{bytes, eqList}
 use Rattle.octets.specs.Pieces.{splitOn}
 use Rattle.octets.proofs.Laws.Cases.{cond-le}
 use Rattle.types.specs.AnyTypes.{DURATION, carrying, datedType, limitedTo, timedType, wellFormed}
 use Rattle.types.specs.Types as Points
-use Rattle.types.specs.Types.{DATE, TIME-OF-DAY, DATE-TIME, placed, restricted, someYear, wellParts}
+use Rattle.types.specs.Types.{DATE, TIME-OF-DAY, DATE-TIME, placed, restricted, wellParts}
+use Rattle.types.specs.Years.{names, rowOfYear, someYear, yearSettingAt, yearNumber}
+use Rattle.types.proofs.Laws.Years.{some-named}
+use Rattle.types.specs.declared.years.YearSetting.{YearSetting}
 use Rattle.lists.specs.Words.{placeIn, yearWords, clockWords, fractionWords, withDigits, fractionNumber, firstNumber, pairOf}
 use Rattle.lists.specs.Lists.{settings, noneYet, refusedList, addPair, addPairs, basicIn, dateIn, yearIn, timeIn, zoneIn, datedList, timedList, presentIf}
 use Rattle.lists.specs.Lists.{intervalIn, intervalList, complete, completed, listOf}
-use Rattle.type_texts.specs.TypeTexts.{listsOf, allOf, usable, distinct, oneRow, member, yearsOf, timeAt, listType, pointType, joined, typeOf}
+use Rattle.type_texts.specs.TypeTexts.{allOf, distinct, joined, listType, listsOf, member, oneRow, pointType, rowIn, timeAt, typeOf}
+use Rattle.lists.specs.Lists.{mostLists}
+use Rattle.type_texts.specs.TypeTexts.{usable, yearsOf}
 use Rattle.types.specs.declared.types.AnyType.{AnyType}
-use Rattle.types.specs.declared.types.Years.{Years}
+use Rattle.types.specs.declared.years.Years.{Years}
 use Rattle.types.specs.declared.types.Parts.{Parts}
 use Rattle.types.specs.declared.types.«Type».{«Type»}
 use Rattle.types.specs.declared.types.Limits.{Limits}
@@ -50,7 +55,7 @@ fraction-le l = go (leb 49 d && leb d 57) refl where
   go false e = omega arith
 
 record InRange (p : Pair) : Type 0 where
-  year : p .property ≡ 2 → p .setting ≤ 4
+  year : p .property ≡ 2 → p .setting ≤ 8
   time : p .property ≡ 3 → p .setting ≤ 99
 
 pair-in-range : (l : List ℕ) → InRange (pairOf l)
@@ -69,7 +74,7 @@ pair-in-range l =
 
 record Bounded (s : Settings) : Type 0 where
   size : length (s .numbers) ≡ 6
-  year : yearIn s ≤ 4
+  year : yearIn s ≤ 8
   time : timeIn s ≤ 99
 
 set-le : (ns : List ℕ) (p v q n : ℕ) → p < length ns → (p ≡ q → v ≤ n) → getD ns q 0 ≤ n → getD (set ns p v) q 0 ≤ n
@@ -89,7 +94,7 @@ add-bounded s l b = go (s .readable && (ltb 0 (p .setting) && eqb (getD (s .numb
       let h : p .property < length (s .numbers) = rw (b .size) (six-properties l) in
       record {
         size = length-set (s .numbers) (p .property) (p .setting) ∙ b .size;
-        year = set-le (s .numbers) (p .property) (p .setting) 2 4 h (pair-in-range l .year) (b .year);
+        year = set-le (s .numbers) (p .property) (p .setting) 2 8 h (pair-in-range l .year) (b .year);
         time = set-le (s .numbers) (p .property) (p .setting) 3 99 h (pair-in-range l .time) (b .time);
       }
   go false = record { size = refl; year = omega arith; time = omega arith }
@@ -117,30 +122,41 @@ list-sound l = go (complete s) refl where
 
 -- ---- A type that such lists make is well-formed.
 
--- A first Year from 1 to 4 is named, whatever the others.
-some-year : (y : ℕ) (ys : List ℕ) → 0 < y → y ≤ 4 → someYear (yearsOf (y ∷ ys)) ≡ true
-unfolding yearsOf member
-some-year zero ys h k = absurd (omega arith)
-some-year (suc zero) ys h k = refl
-some-year (suc (suc zero)) ys h k = go (member 1 ys) where
-  go : (a : Bool) →
-      someYear (cond (a || true) (Years.Plain (record { basic = a; proleptic = true }))
-      (Years.Signed (record { negative = member 3 ys; five = member 4 ys }))) ≡ true
-  go true = refl
-  go false = refl
-some-year (suc (suc (suc zero))) ys h k = go (member 1 ys) (member 2 ys) where
-  go : (a b : Bool) →
-      someYear (cond (a || b) (Years.Plain (record { basic = a; proleptic = b })) (Years.Signed (record { negative = true; five = member 4 ys }))) ≡ true
-  go true b = refl
-  go false true = refl
-  go false false = refl
-some-year (suc (suc (suc (suc zero)))) ys h k = go (member 1 ys) (member 2 ys) where
-  go : (a b : Bool) →
-      someYear (cond (a || b) (Years.Plain (record { basic = a; proleptic = b })) (Years.Signed (record { negative = member 3 ys; five = true }))) ≡ true
-  go true b = refl
-  go false true = refl
-  go false false = or-true (member 3 ys)
-some-year (suc (suc (suc (suc (suc n))))) ys h k = absurd (omega arith)
+first-member : (n : ℕ) (ys : List ℕ) → member n (n ∷ ys) ≡ true
+unfolding member
+first-member n ys = rw (eq-eqb n n refl)
+
+-- A first Year is named, whatever the others.
+pub first-named : (y : YearSetting) (ys : List ℕ) → names (yearsOf (rowOfYear y) (yearNumber y ∷ ys)) y ≡ true
+unfolding yearsOf
+first-named YearSetting.Basic ys = first-member 1 ys
+first-named YearSetting.Proleptic ys = first-member 2 ys
+first-named YearSetting.Negative ys = first-member 3 ys
+first-named YearSetting.L5 ys = first-member 4 ys
+first-named YearSetting.L6 ys = first-member 5 ys
+first-named YearSetting.L7 ys = first-member 6 ys
+first-named YearSetting.L8 ys = first-member 7 ys
+first-named YearSetting.L9 ys = first-member 8 ys
+
+-- Each number from 1 to 8 is that of a Year.
+year-number : (n : ℕ) → 0 < n → n ≤ 8 → yearNumber (yearSettingAt n) ≡ n
+unfolding yearSettingAt
+year-number zero h k = absurd (omega arith)
+year-number (suc zero) h k = refl
+year-number (suc (suc zero)) h k = refl
+year-number (suc (suc (suc zero))) h k = refl
+year-number (suc (suc (suc (suc zero)))) h k = refl
+year-number (suc (suc (suc (suc (suc zero))))) h k = refl
+year-number (suc (suc (suc (suc (suc (suc zero)))))) h k = refl
+year-number (suc (suc (suc (suc (suc (suc (suc zero))))))) h k = refl
+year-number (suc (suc (suc (suc (suc (suc (suc (suc zero)))))))) h k = refl
+year-number (suc (suc (suc (suc (suc (suc (suc (suc (suc n))))))))) h k = absurd (omega arith)
+
+some-year : (n : ℕ) (ys : List ℕ) → 0 < n → n ≤ 8 → someYear (yearsOf (rowOfYear (yearSettingAt n)) (n ∷ ys)) ≡ true
+some-year n ys h k =
+    let e = year-number n h k in
+    some-named _ (yearSettingAt n)
+    (subst (λ (m : ℕ). names (yearsOf (rowOfYear (yearSettingAt n)) (m ∷ ys)) (yearSettingAt n) ≡ true) e (first-named (yearSettingAt n) ys))
 
 dated-year : (s : Settings) → complete s ≡ true → datedList s ≡ true → 0 < yearIn s
 unfolding complete
@@ -156,16 +172,16 @@ digits-few : (t z : ℕ) → t ≤ 99 → leb (timeAt t z .digits) 9 ≡ true
 unfolding timeAt
 digits-few t z h = le-leb (t / 10) 9 (omega arith)
 
-list-well-formed : (s : Settings) (ys : List ℕ) → Sound s → wellFormed (listType s (yearIn s ∷ ys)) ≡ true
+list-well-formed : (s : Settings) (ys : List ℕ) → Sound s → wellFormed (listType s (yearsOf (rowIn s) (yearIn s ∷ ys))) ≡ true
 unfolding listType pointType timedList datedList
 list-well-formed s ys h = go (eqb (basicIn s) 1) (eqb (basicIn s) 2) (eqb (basicIn s) 3) refl refl refl where
-  year : datedList s ≡ true → someYear (yearsOf (yearIn s ∷ ys)) ≡ true
+  year : datedList s ≡ true → someYear (yearsOf (rowIn s) (yearIn s ∷ ys)) ≡ true
   year e = some-year (yearIn s) ys (dated-year s (h .all) e) (h .bounds .year)
 
   few : leb (timeAt (timeIn s) (zoneIn s) .digits) 9 ≡ true
   few = digits-few (timeIn s) (zoneIn s) (h .bounds .time)
 
-  go : (a b c : Bool) → eqb (basicIn s) 1 ≡ a → eqb (basicIn s) 2 ≡ b → eqb (basicIn s) 3 ≡ c → wellFormed (listType s (yearIn s ∷ ys)) ≡ true
+  go : (a b c : Bool) → eqb (basicIn s) 1 ≡ a → eqb (basicIn s) 2 ≡ b → eqb (basicIn s) 3 ≡ c → wellFormed (listType s (yearsOf (rowIn s) (yearIn s ∷ ys))) ≡ true
   go true b c e f g = rw (e, year (rw e))
   go false true true e f g = rw (e, f, g, few)
   go false true false e f g = rw (e, f, g, few)
@@ -212,11 +228,11 @@ second false b c d e h = absurd (false≢true h)
 good-joined : (limits : Limits) (s : Settings) (r : List Settings) → (s .readable ≡ true → Sound s) → Good (joined limits (s ∷ r))
 unfolding joined allOf usable
 good-joined limits s r h =
-    good-cond (leb (length (s ∷ r)) 2 && allOf (usable limits) (s ∷ r) && distinct (s ∷ r)) _ _
+    good-cond (leb (length (s ∷ r)) mostLists && allOf (usable limits) (s ∷ r) && distinct (s ∷ r)) _ _
     (λ e.
-    let v : s .readable ≡ true = second (leb (length (s ∷ r)) 2) (s .readable) (placed limits (datedList s) (timedList s)) (allOf (usable limits) r)
+    let v : s .readable ≡ true = second (leb (length (s ∷ r)) mostLists) (s .readable) (placed limits (datedList s) (timedList s)) (allOf (usable limits) r)
     (distinct (s ∷ r)) e in
-    good-cond (allOf (oneRow s) r) _ _ (λ f. good-limited limits (listType s (map yearIn (s ∷ r))) (list-well-formed s (map yearIn r) (h v))) tt)
+    good-cond (allOf (oneRow s) r) _ _ (λ f. good-limited limits (listType s (yearsOf (rowIn s) (map yearIn (s ∷ r)))) (list-well-formed s (map yearIn r) (h v))) tt)
     tt
 
 good-lists : (limits : Limits) (l : List ℕ) → Good (joined limits (listsOf l))

@@ -14,16 +14,18 @@ use Rattle.lists.specs.Lists.{settings, refusedList, addPair, addPairs}
 use Rattle.lists.specs.declared.words.Pair.{Pair}
 use Rattle.lists.specs.declared.lists.Settings.{Settings}
 use Rattle.lists.proofs.Laws.Spelled as spelled
-use Rattle.lists.proofs.Laws.Spelled.{Word as Spelled, date-Y, date-YM, date-YMD, date-YD, date-YW, date-YWD, year-basic, year-proleptic, year-negative}
-use Rattle.lists.proofs.Laws.Spelled.{year-L5, time-H, time-HM, time-HMS, time-HF, time-HMF, time-HMSF, zone-L, zone-Z, zone-LD, interval-D}
+use Rattle.lists.proofs.Laws.Spelled.{Word as Spelled, date-Y, date-YM, date-YMD, date-YD, date-YW, date-YWD, interval-D, time-H, time-HM, time-HMS}
+use Rattle.lists.proofs.Laws.Spelled.{time-HF, time-HMF, time-HMSF, zone-L, zone-LD, zone-Z}
 use Rattle.texts.specs.declared.forms.DateForm.{DateForm}
 use Rattle.texts.specs.declared.forms.ClockForm.{ClockForm}
 use Rattle.texts.specs.declared.forms.ZoneForm.{ZoneForm}
 use Rattle.types.specs.Numbers.{dateNumber, zoneNumber}
+use Rattle.types.specs.Years.{yearNumber, yearWord}
+use Rattle.types.specs.declared.years.YearSetting.{YearSetting}
 use Rattle.types.specs.declared.types.AnyType.{AnyType}
 use Rattle.types.specs.declared.types.TypeRead.{TypeRead}
-use Rattle.type_texts.specs.Written.{YearSetting, basic, proleptic, negative, five, dateWord, yearWord, clockWord, timeWord, zoneWord, joinWith, typeText}
-use Rattle.type_texts.proofs.Laws.Written.{yearNumber, timeCode}
+use Rattle.type_texts.specs.Written.{dateWord, clockWord, timeWord, zoneWord, joinWith, typeText}
+use Rattle.type_texts.proofs.Laws.Written.{timeCode}
 
 -- ---- words
 
@@ -34,7 +36,7 @@ pub data SettingWord : List ℕ → Pair → Type 0 where
   basic-date-time : SettingWord (bytes "Basic=Date-Time") (pair 0 3)
   basic-interval : SettingWord (bytes "Basic=Interval") (pair 0 4)
   date : (f : DateForm) → SettingWord (dateWord f) (pair 1 (dateNumber f))
-  year : (y : YearSetting) → SettingWord (yearWord y) (pair 2 (yearNumber y))
+  year : (y : YearSetting) → SettingWord (bytes (yearWord y)) (pair 2 (yearNumber y))
   time : (c : ClockForm) (n : ℕ) → n ≤ 9 → SettingWord (timeWord c n) (pair 3 (timeCode c n))
   zone : (z : ZoneForm) → SettingWord (zoneWord z) (pair 4 (zoneNumber z))
   interval : SettingWord (bytes "Interval-type=D") (pair 5 1)
@@ -55,10 +57,7 @@ settings-word w p date-YMD = date DateForm.YMD
 settings-word w p date-YD = date DateForm.YD
 settings-word w p date-YW = date DateForm.YW
 settings-word w p date-YWD = date DateForm.YWD
-settings-word w p year-basic = year basic
-settings-word w p year-proleptic = year proleptic
-settings-word w p year-negative = year negative
-settings-word w p year-L5 = year five
+settings-word w p (spelled.year y) = year y
 settings-word w p time-H = time ClockForm.H 0 (omega arith)
 settings-word w p time-HM = time ClockForm.HM 0 (omega arith)
 settings-word w p time-HMS = time ClockForm.HMS 0 (omega arith)

@@ -1,37 +1,43 @@
 -- From the words of a type to its settings, its lists and the type.
-use mathlib.Core.Path.{_≡_, refl, ap, sym, _∙_}
-use mathlib.Core.List.{List, [], _∷_, _++_, map, List·Permᴰ}
+use mathlib.Core.Path.{_≡_, refl, ap, ap₂, sym, _∙_, subst}
+use mathlib.Core.List.{List, [], _∷_, _++_, map, List·Permᴰ, List·Permᴰ·nil, List·Permᴰ·cons, List·Permᴰ·swap, List·Permᴰ·trans}
 use mathlib.Core.Bool.{Bool, true, false, _&&_, _||_, not, cond, and-eq-true-iff, false≢true}
-use Prim.Native.Nat.{ℕ, _+_, _-_, _*_, _/_, _%_, _<_, _≤_}
+use Prim.Native.Nat.{ℕ, suc, _+_, _-_, _*_, _/_, _%_, _<_, _≤_}
 use native.Mathlib.Omega.{arith}
-use lib.Dec.{eqb}
-use lib.ListN.{length}
-use borrow.Author.Tests.{lt-ltb, ne-eqb, eq-eqb, eqb-true, eqb-false, not-true}
+use lib.Dec.{eqb, leb}
+use lib.ListN.{length, drop, length-map}
+use borrow.Author.Tests.{le-leb, lt-ltb, ne-eqb, eq-eqb, eqb-true, eqb-false, not-true}
 use Rattle.octets.specs.Octets.{bytes, eqList}
-use Rattle.octets.proofs.Laws.Octets.{equal}
 use Rattle.types.specs.Numbers.{dateNumber, dateAt, clockNumber, clockAt, zoneNumber, zoneAt}
-use Rattle.types.specs.Types.{unlimitedDate, unlimitedTime, listed, hasDate, hasTime, placed, someYear}
+use Rattle.types.specs.Types.{unlimitedDate, unlimitedTime, listed, hasDate, hasTime, placed}
+use Rattle.types.specs.Years.{names, rowNumber, rowOfYear, someYear, yearSettingAt, yearNumber, yearSettings, yearWord, yearsRow}
+use Rattle.types.proofs.Laws.Years.{named-row, named-some, year-back}
 use Rattle.types.specs.AnyTypes.{limitedTo}
 use Rattle.lists.specs.Words.{placeFrom, fractionNumber, pair, pairOf}
-use Rattle.lists.specs.Lists.{settings, noneYet, addPair, addPairs, datedList, timedList, intervalList, complete, completed, listOf}
-use Rattle.type_texts.specs.TypeTexts.{listsOf, sameButYear, yearFamily, oneRow, equalLists, allOf, distinct, usable, member, yearsOf, timeAt, listType}
-use Rattle.type_texts.specs.TypeTexts.{pointType, joined, typeOf}
-use Rattle.type_texts.specs.Written.{dateWord, YearSetting, basic, proleptic, negative, five, yearWord, clockWord, timeWord, zoneWord, datePairs}
-use Rattle.type_texts.specs.Written.{timePairs, dateTimePairs, durationPairs, namedYears, joinWith, typeText, Arranged, end, more}
+use Rattle.lists.specs.Lists.{settings, noneYet, addPair, addPairs, datedList, timedList, intervalList, complete, completed, listOf, yearIn}
+use Rattle.type_texts.specs.TypeTexts.{allOf, distinct, equalLists, joined, listType, listsOf, member, oneRow, pointType}
+use Rattle.lists.specs.Lists.{mostLists}
+use Rattle.type_texts.specs.TypeTexts.{sameButYear, timeAt, typeOf, usable, yearsOf}
+use Rattle.type_texts.specs.Written.{Arranged, InAnyOrder, clockWord, datePairs, dateTimePairs, dateWord, durationPairs, end, joinWith, keep, more}
+use Rattle.type_texts.specs.Written.{namedYears, timePairs, timeWord, typeText, zoneWord}
 use Rattle.texts.specs.declared.forms.DateForm.{DateForm}
 use Rattle.texts.specs.declared.forms.ClockForm.{ClockForm}
 use Rattle.texts.specs.declared.forms.ZoneForm.{ZoneForm}
 use Rattle.texts.specs.declared.forms.TimeForm.{TimeForm}
 use Rattle.types.specs.declared.types.AnyType.{AnyType}
-use Rattle.types.specs.declared.types.Years.{Years}
+use Rattle.types.specs.declared.years.YearRow.{YearRow}
+use Rattle.types.specs.declared.years.YearSetting.{YearSetting}
+use Rattle.types.specs.declared.years.Years.{Years}
 use Rattle.types.specs.declared.types.DateType.{DateType}
 use Rattle.types.specs.declared.types.TimeType.{TimeType}
 use Rattle.types.specs.declared.types.Parts.{Parts}
 use Rattle.types.specs.declared.types.Limits.{Limits}
 use Rattle.types.specs.declared.types.TypeRead.{TypeRead}
 use Rattle.lists.specs.declared.lists.Settings.{Settings}
-use Rattle.lists.proofs.Laws.Spelled.{interval-D, time-HF, time-HMF, time-HMSF, word-read}
-use Rattle.type_texts.proofs.Laws.Joining.{lacks, split-join, lacks-join, has-join, all-perm, all-weaken, length-perm}
+use Rattle.lists.proofs.Laws.Spelled.{interval-D, time-HF, time-HMF, time-HMSF, word-read, year}
+use Rattle.type_texts.proofs.Laws.Joining.{lacks, split-join, lacks-join, has-join, all-perm, all-weaken, length-perm, perm-map}
+use Rattle.type_texts.proofs.Laws.Kept.{apart, eqb-turn, kept-all, kept-apart, kept-length, kept-map, member-kept}
+use Rattle.type_texts.proofs.Laws.ListOrder.{joined-perm, no-name, one-number}
 use Rattle.lists.proofs.Laws.Order.{pairs-perm}
 
 -- ---- The words give the numbers of the settings, and the numbers give the settings back.
@@ -61,23 +67,22 @@ date-setting DateForm.YD = record { word = refl; some = omega arith; back = refl
 date-setting DateForm.YW = record { word = refl; some = omega arith; back = refl }
 date-setting DateForm.YWD = record { word = refl; some = omega arith; back = refl }
 
--- The number of a Year setting.
-abbrev pub yearNumber : YearSetting → ℕ
-yearNumber basic = 1
-yearNumber proleptic = 2
-yearNumber negative = 3
-yearNumber five = 4
-
 record YearNumber (y : YearSetting) : Type 0 where
-  word : pairOf (yearWord y) ≡ pair 2 (yearNumber y)
+  word : pairOf (bytes (yearWord y)) ≡ pair 2 (yearNumber y)
   some : 0 < yearNumber y
 
+some-number : (y : YearSetting) → 0 < yearNumber y
+some-number YearSetting.Basic = omega arith
+some-number YearSetting.Proleptic = omega arith
+some-number YearSetting.Negative = omega arith
+some-number YearSetting.L5 = omega arith
+some-number YearSetting.L6 = omega arith
+some-number YearSetting.L7 = omega arith
+some-number YearSetting.L8 = omega arith
+some-number YearSetting.L9 = omega arith
+
 year-setting : (y : YearSetting) → YearNumber y
-unfolding pairOf placeFrom eqList
-year-setting basic = record { word = refl; some = omega arith }
-year-setting proleptic = record { word = refl; some = omega arith }
-year-setting negative = record { word = refl; some = omega arith }
-year-setting five = record { word = refl; some = omega arith }
+year-setting y = record { word = word-read _ _ (year y); some = some-number y }
 
 record ZoneSetting (z : ZoneForm) : Type 0 where
   word : pairOf (zoneWord z) ≡ pair 4 (zoneNumber z)
@@ -230,12 +235,16 @@ date-is-word DateForm.YW = refl
 date-is-word DateForm.YWD = refl
 
 -- Every pair of Year is a word.
-pub year-is-word : (y : YearSetting) → isWord (yearWord y) ≡ true
+pub year-is-word : (y : YearSetting) → isWord (bytes (yearWord y)) ≡ true
 unfolding isWord lacks
-year-is-word basic = refl
-year-is-word proleptic = refl
-year-is-word negative = refl
-year-is-word five = refl
+year-is-word YearSetting.Basic = refl
+year-is-word YearSetting.Proleptic = refl
+year-is-word YearSetting.Negative = refl
+year-is-word YearSetting.L5 = refl
+year-is-word YearSetting.L6 = refl
+year-is-word YearSetting.L7 = refl
+year-is-word YearSetting.L8 = refl
+year-is-word YearSetting.L9 = refl
 
 -- Every pair of Local-or-UTC is a word.
 pub zone-is-word : (z : ZoneForm) → isWord (zoneWord z) ≡ true
@@ -288,20 +297,33 @@ module _ (vs : List (List ℕ)) (s : Settings) (some : 0 < length vs) (words : a
 
 -- ---- A type's text is no name, and each of its lists is read.
 
--- A text that has an octet is none that lacks it.
-pub not-it : (c : ℕ) (a b : List ℕ) → lacks c a ≡ false → lacks c b ≡ true → eqList a b ≡ false
-not-it c a b h k = go (eqList a b) refl where
-  go : (t : Bool) → eqList a b ≡ t → t ≡ false
-  go true e = absurd (false≢true (sym h ∙ ap (lacks c) (equal a b e) ∙ k))
-  go false e = refl
+-- Lists in another order, the pairs of each arranged as they were.
+arranged-perm : {us vs wss : List (List (List ℕ))} → List·Permᴰ us vs → Arranged wss us →
+    (xss : List (List (List ℕ))) × (Arranged xss vs) × (List·Permᴰ wss xss)
+arranged-perm List·Permᴰ·nil end = ([], end, List·Permᴰ·nil)
+arranged-perm (List·Permᴰ·cons e d) (more {ws = w} p r) =
+    let i = arranged-perm d r in (w ∷ i .0, more (subst (λ (v : List (List ℕ)). List·Permᴰ w v) e p) (i .1), List·Permᴰ·cons refl (i .2))
+arranged-perm (List·Permᴰ·swap e g) (more {ws = w} p (more {ws = v} {wss = wss} q r)) = (
+  v ∷ w ∷ wss,
+  more (subst (λ (u : List (List ℕ)). List·Permᴰ v u) g q) (more (subst (λ (u : List (List ℕ)). List·Permᴰ w u) e p) r),
+  List·Permᴰ·swap refl refl,
+)
+arranged-perm (List·Permᴰ·trans d e) a =
+    let i = arranged-perm d a in let j = arranged-perm e (i .1) in (j .0, j .1, List·Permᴰ·trans (i .2) (j .2))
 
-names-lack :
-    (lacks 61 (bytes "DATE") ≡ true)
-    × (lacks 61 (bytes "TIME-OF-DAY") ≡ true)
-    × (lacks 61 (bytes "DATE-TIME") ≡ true)
-    × (lacks 61 (bytes "DURATION") ≡ true)
-unfolding lacks
-names-lack = (refl, refl, refl, refl)
+length-arranged : {wss vss : List (List (List ℕ))} → Arranged wss vss → length wss ≡ length vss
+length-arranged end = refl
+length-arranged (more d r) = ap suc (length-arranged r)
+
+-- A text of lists without a bar in any of them, and with an equals sign in each, is these lists.
+some-lists : (limits : Limits) (wss : List (List (List ℕ))) → 0 < length wss → allOf (lacks 124) (map (joinWith 32) wss) ≡ true
+    → allOf (λ p. not (lacks 61 p)) (map (joinWith 32) wss) ≡ true → typeOf limits (typeText wss) ≡ joined limits (map listOf (map (joinWith 32) wss))
+unfolding typeText listsOf allOf lacks
+some-lists limits [] h b q = absurd (omega arith)
+some-lists limits (ws ∷ wss) h b q =
+    let n = not-true (lacks 61 (joinWith 32 ws)) (and-eq-true-iff _ _ .0 q .0) in
+    let e : lacks 61 (joinWith 124 (joinWith 32 ws ∷ map (joinWith 32) wss)) ≡ false = has-join 61 124 (joinWith 32 ws) (map (joinWith 32) wss) n in
+    no-name limits 61 _ refl e ∙ rw (split-join 124 (joinWith 32 ws) (map (joinWith 32) wss) refl b)
 
 module _ (f : YearSetting → List (List ℕ)) (g : YearSetting → Settings) (k : (y : YearSetting) (ws : List (List ℕ)) → List·Permᴰ ws (f y) → ListText ws (g y))
   where
@@ -316,27 +338,27 @@ module _ (f : YearSetting → List (List ℕ)) (g : YearSetting → Settings) (k
     no-bars [] end = refl
     no-bars (y ∷ ys) (more d r) = rw (k y _ d .bar, no-bars ys r)
 
-    -- The lists of a text are read and joined.
+    have-equals : (ys : List YearSetting) {wss : List (List (List ℕ))} → Arranged wss (map f ys) →
+        allOf (λ p. not (lacks 61 p)) (map (joinWith 32) wss) ≡ true
+    unfolding allOf
+    have-equals [] end = refl
+    have-equals (y ∷ ys) (more d r) = rw (k y _ d .equals, have-equals ys r)
+
+    -- The lists of a text, in any order, are read and joined.
     pub text-read : (limits : Limits) (y : YearSetting) (ys : List YearSetting) {wss : List (List (List ℕ))} →
-        Arranged wss (map f (y ∷ ys)) →
+        InAnyOrder wss (map f (y ∷ ys)) →
         typeOf limits (typeText wss) ≡ joined limits (map g (y ∷ ys))
-    unfolding typeOf typeText listsOf
-    text-read limits y ys (more {ws} {vs} {wss} d r) =
-        let e : lacks 61 (joinWith 124 (joinWith 32 ws ∷ map (joinWith 32) wss)) ≡ false = has-join 61 124 (joinWith 32 ws) (map (joinWith 32) wss)
-        (k y ws d .equals) in
-        rw (
-          not-it 61 _ _ e (names-lack .0),
-          not-it 61 _ _ e (names-lack .1),
-          not-it 61 _ _ e (names-lack .2),
-          not-it 61 _ _ e (names-lack .3),
-          split-join 124 (joinWith 32 ws) (map (joinWith 32) wss) refl (no-bars (y ∷ ys) (more d r)),
-          k y ws d .reads,
-          lists-read ys r,
-        )
+    text-read limits y ys {wss} o =
+        let x = arranged-perm (o .of-lists) (o .of-pairs) in
+        let d : List·Permᴰ (map (joinWith 32) wss) (map (joinWith 32) (x .0)) = perm-map (joinWith 32) (x .2) in
+        some-lists limits wss (omega (arith, length-perm (o .of-lists), length-arranged (o .of-pairs)))
+        (all-perm (lacks 124) d ∙ no-bars (y ∷ ys) (x .1)) (all-perm (λ p. not (lacks 61 p)) d ∙ have-equals (y ∷ ys) (x .1))
+        ∙ joined-perm limits (perm-map listOf d) ∙ ap (joined limits) (lists-read (y ∷ ys) (x .1))
 
 -- ---- The lists of a type make the type.
 
-abbrev listAt : (b d t z i y : ℕ) → Settings
+-- A list by its numbers, the Year's last.
+abbrev pub listAt : (b d t z i y : ℕ) → Settings
 listAt b d t z i y = settings (b ∷ d ∷ y ∷ t ∷ z ∷ i ∷ [])
 
 -- Whether limits have their place in a list with this Basic.
@@ -349,80 +371,198 @@ whereSo k r = cond k r TypeRead.Unreadable
 self : (n : ℕ) → eqb n n ≡ true
 self n = eq-eqb n n refl
 
-one-joined : (limits : Limits) (b d t z i y : ℕ) (k : Bool) → placedAt limits b ≡ k →
-    joined limits (listAt b d t z i y ∷ []) ≡ whereSo k (limitedTo limits (listType (listAt b d t z i 0) (y ∷ [])))
-unfolding joined allOf usable distinct datedList timedList listType pointType
-one-joined limits b d t z i y true e = rw e
-one-joined limits b d t z i y false e = rw e
+-- ---- Lists that differ in Year alone.
 
-two-joined : (limits : Limits) (b d t z i y x : ℕ) (k : Bool) → placedAt limits b ≡ k →
-    eqb y x ≡ false → eqb (yearFamily y) (yearFamily x) ≡ true →
-    joined limits (listAt b d t z i y ∷ listAt b d t z i x ∷ []) ≡ whereSo k (limitedTo limits (listType (listAt b d t z i 0) (y ∷ x ∷ [])))
-unfolding joined allOf usable distinct datedList timedList listType pointType equalLists oneRow sameButYear
-two-joined limits b d t z i y x true e n f = rw (e, self b, self d, self t, self z, self i, n, f)
-two-joined limits b d t z i y x false e n f = rw e
+module _ (limits : Limits) (b d t z i : ℕ) where
+  abbrev at : ℕ → Settings
+  at y = listAt b d t z i y
 
-abbrev plain : Bool → Bool → Years
-plain a b = Years.Plain (record { basic = a; proleptic = b })
+  equal-years : (y x : ℕ) → equalLists (at y) (at x) ≡ eqb y x
+  unfolding equalLists sameButYear
+  equal-years y x = rw (self b, self d, self t, self z, self i)
 
-abbrev signed : Bool → Bool → Years
-signed a b = Years.Signed (record { negative = a; five = b })
+  same-row : (y x : ℕ) → rowOfYear (yearSettingAt y) ≡ rowOfYear (yearSettingAt x) → oneRow (at y) (at x) ≡ true
+  unfolding oneRow sameButYear
+  same-row y x e = rw (self b, self d, self t, self z, self i, eq-eqb (rowNumber (rowOfYear (yearSettingAt y))) _ (ap rowNumber e))
 
-abbrev numbersOf : Years → List ℕ
-numbersOf ys = map yearNumber (namedYears ys)
+  not-among : (y : ℕ) (ys : List ℕ) → allOf (λ s. not (equalLists (at y) s)) (map at ys) ≡ not (member y ys)
+  unfolding allOf member
+  not-among y [] = refl
+  not-among y (x ∷ ys) = rw (equal-years y x, eqb-turn y x, not-among y ys) (neither (eqb x y) (member y ys))
+    where
+      neither : (p q : Bool) → not p && not q ≡ not (p || q)
+      neither true q = refl
+      neither false q = refl
+
+  -- Lists differ where their Years do, ..
+  pub lists-apart : (ys : List ℕ) → distinct (map at ys) ≡ apart ys
+  unfolding distinct apart
+  lists-apart [] = refl
+  lists-apart (y ∷ ys) = ap₂ (λ (p q : Bool). p && q) (not-among y ys) (lists-apart ys)
+
+  -- .. are of one row where their Years are, ..
+  lists-row : (y : ℕ) (r : YearRow) (ys : List ℕ) → rowOfYear (yearSettingAt y) ≡ r → allOf (λ x. eqb (rowNumber (rowOfYear (yearSettingAt x)))
+      (rowNumber r)) ys ≡ true
+      → allOf (oneRow (at y)) (map at ys) ≡ true
+  unfolding allOf
+  lists-row y r [] e h = refl
+  lists-row y r (x ∷ ys) e h =
+      let p = and-eq-true-iff (eqb (rowNumber (rowOfYear (yearSettingAt x))) (rowNumber r)) _ .0 h in
+      let q : rowOfYear (yearSettingAt y) ≡ rowOfYear (yearSettingAt x) = e ∙ sym (one-number _ _ (eqb-true _ _ (p .0))) in
+      rw (same-row y x q, lists-row y r ys e (p .1))
+
+  -- .. are usable where the limits have their place, ..
+  lists-usable : (k : Bool) → placedAt limits b ≡ k → (ys : List ℕ) → 0 < length ys → allOf (usable limits) (map at ys) ≡ k
+  unfolding allOf usable datedList timedList
+  lists-usable k e [] h = absurd (omega arith)
+  lists-usable true e (y ∷ ys) h = rw e (all-of ys)
+    where
+      all-of : (ys : List ℕ) → allOf (usable limits) (map at ys) ≡ true
+      all-of [] = refl
+      all-of (x ∷ ys) = rw e (all-of ys)
+  lists-usable false e (y ∷ ys) h = rw e
+
+  -- .. and have their Years.
+  lists-years : (ys : List ℕ) → map yearIn (map at ys) ≡ ys
+  lists-years [] = refl
+  lists-years (y ∷ ys) = ap (λ (l : List ℕ). y ∷ l) (lists-years ys)
+
+  -- Up to six Years of one row, none twice: their lists make a type.
+  lists-joined : (k : Bool) → placedAt limits b ≡ k → (y : ℕ) (ys : List ℕ) → length (y ∷ ys) ≤ mostLists → apart (y ∷ ys) ≡ true
+      → (r : YearRow) → allOf (λ x. eqb (rowNumber (rowOfYear (yearSettingAt x))) (rowNumber r)) (y ∷ ys) ≡ true
+      → joined limits (map at (y ∷ ys)) ≡ whereSo k (limitedTo limits (listType (at y) (yearsOf (rowOfYear (yearSettingAt y)) (y ∷ ys))))
+  unfolding joined allOf
+  lists-joined k e y ys l a r h =
+      let n : length (map at (y ∷ ys)) ≡ suc (length ys) = length-map (y ∷ ys) at in
+      let m : leb (length (map at (y ∷ ys))) mostLists ≡ true = le-leb (length (map at (y ∷ ys))) mostLists (omega arith) in
+      let p = and-eq-true-iff (eqb (rowNumber (rowOfYear (yearSettingAt y))) (rowNumber r)) _ .0 h in
+      let w = lists-row y r ys (one-number _ _ (eqb-true _ _ (p .0))) (p .1) in
+      rw (m, lists-usable k e (y ∷ ys) (omega arith), lists-apart (y ∷ ys) ∙ a, w, lists-years (y ∷ ys)) (go k)
+    where
+      go : (k : Bool) → cond (k && true) (limitedTo limits (listType (at y) (yearsOf (rowOfYear (yearSettingAt y)) (y ∷ ys)))) TypeRead.Unreadable
+          ≡ whereSo k (limitedTo limits (listType (at y) (yearsOf (rowOfYear (yearSettingAt y)) (y ∷ ys))))
+      go true = refl
+      go false = refl
+
+-- ---- The Years that a type names.
+
+-- The numbers of the Years that a type names.
+abbrev pub numbersOf : Years → List ℕ
+numbersOf years = map yearNumber (namedYears years)
+
+-- The numbers of all Years.
+abbrev pub allNumbers : List ℕ
+allNumbers = map yearNumber yearSettings
+
+-- Whether the Year with a number is one that a type names.
+abbrev namesNumber : Years → ℕ → Bool
+namesNumber years n = names years (yearSettingAt n)
+
+numbers-kept : (years : Years) → numbersOf years ≡ keep (namesNumber years) allNumbers
+numbers-kept years = kept-map yearNumber (names years) (namesNumber years) (λ y. rw (year-back y)) yearSettings
+
+few-numbers : (years : Years) → length (numbersOf years) ≤ mostLists
+unfolding keep
+few-numbers (Years.Plain y) = rw (length-map (namedYears (Years.Plain y)) yearNumber) (omega (arith, few (y .basic) (y .proleptic)))
+  where
+    few : (a b : Bool) → length (keep (names (Years.Plain (record { basic = a; proleptic = b }))) yearSettings) ≤ 2
+    few true true = omega arith
+    few true false = omega arith
+    few false true = omega arith
+    few false false = omega arith
+few-numbers (Years.Signed y) =
+    rw (length-map (namedYears (Years.Signed y)) yearNumber) (kept-length (names (Years.Signed y)) (drop 2 yearSettings))
+
+numbers-apart : (years : Years) → apart (numbersOf years) ≡ true
+unfolding apart member
+numbers-apart years = rw (numbers-kept years) (kept-apart (namesNumber years) allNumbers refl)
+
+numbers-row : (years : Years) → allOf (λ x. eqb (rowNumber (rowOfYear (yearSettingAt x))) (rowNumber (yearsRow years))) (numbersOf years) ≡ true
+numbers-row years =
+    rw (numbers-kept years)
+    (kept-all (namesNumber years) _ (λ n h. eq-eqb _ _ (ap rowNumber (named-row years (yearSettingAt n) h))) allNumbers)
+
+alone : (k : Bool) → (k && true) || false ≡ k
+alone true = refl
+alone false = refl
+
+never : (k : Bool) → k && false ≡ false
+never true = refl
+never false = refl
+
+-- A Year is among those that a type names where the type names it.
+named-member : (years : Years) (y : YearSetting) → member (yearNumber y) (numbersOf years) ≡ names years y
+unfolding member keep yearSettingAt
+named-member years y = rw (numbers-kept years) (go y)
+  where
+    go : (y : YearSetting) → member (yearNumber y) (keep (namesNumber years) allNumbers) ≡ names years y
+    go YearSetting.Basic = simp (member-kept, never, alone)
+    go YearSetting.Proleptic = simp (member-kept, never, alone)
+    go YearSetting.Negative = simp (member-kept, never, alone)
+    go YearSetting.L5 = simp (member-kept, never, alone)
+    go YearSetting.L6 = simp (member-kept, never, alone)
+    go YearSetting.L7 = simp (member-kept, never, alone)
+    go YearSetting.L8 = simp (member-kept, never, alone)
+    go YearSetting.L9 = simp (member-kept, never, alone)
 
 -- The Years that are named are those that are read.
-years-back : (ys : Years) → someYear ys ≡ true → yearsOf (numbersOf ys) ≡ ys
-unfolding yearsOf member
-years-back (Years.Plain y) h = go (y .basic) (y .proleptic) h where
-  go : (a b : Bool) → (a || b) ≡ true → yearsOf (numbersOf (plain a b)) ≡ plain a b
-  go true true h = refl
-  go true false h = refl
-  go false true h = refl
-  go false false h = absurd (false≢true h)
-years-back (Years.Signed y) h = go (y .negative) (y .five) h where
-  go : (a b : Bool) → (a || b) ≡ true → yearsOf (numbersOf (signed a b)) ≡ signed a b
-  go true true h = refl
-  go true false h = refl
-  go false true h = refl
-  go false false h = absurd (false≢true h)
+years-back : (years : Years) → yearsOf (yearsRow years) (numbersOf years) ≡ years
+unfolding yearsOf
+years-back (Years.Plain y) = rw (named-member (Years.Plain y) YearSetting.Basic, named-member (Years.Plain y) YearSetting.Proleptic)
+years-back (Years.Signed y) =
+    rw (
+      named-member (Years.Signed y) YearSetting.Negative,
+      named-member (Years.Signed y) YearSetting.L5,
+      named-member (Years.Signed y) YearSetting.L6,
+      named-member (Years.Signed y) YearSetting.L7,
+      named-member (Years.Signed y) YearSetting.L8,
+      named-member (Years.Signed y) YearSetting.L9,
+    )
 
 -- A type with a date names a Year.
-pub some-named : (ys : Years) → someYear ys ≡ true → 0 < length (namedYears ys)
-some-named (Years.Plain y) h = go (y .basic) (y .proleptic) h where
-  go : (a b : Bool) → (a || b) ≡ true → 0 < length (namedYears (plain a b))
-  go true true h = omega arith
-  go true false h = omega arith
-  go false true h = omega arith
-  go false false h = absurd (false≢true h)
-some-named (Years.Signed y) h = go (y .negative) (y .five) h where
-  go : (a b : Bool) → (a || b) ≡ true → 0 < length (namedYears (signed a b))
-  go true true h = omega arith
-  go true false h = omega arith
-  go false true h = omega arith
-  go false false h = absurd (false≢true h)
+pub some-named : (years : Years) → someYear years ≡ true → (y : YearSetting) × (ys : List YearSetting) × (namedYears years ≡ y ∷ ys)
+unfolding member
+some-named years h = go (namedYears years) refl
+  where
+    s : (y : YearSetting) × (names years y ≡ true)
+    s = named-some years h
 
-module _ (limits : Limits) (b d t z : ℕ) (k : Bool) (e : placedAt limits b ≡ k) where
+    go : (l : List YearSetting) → namedYears years ≡ l → (y : YearSetting) × (ys : List YearSetting) × (namedYears years ≡ y ∷ ys)
+    go [] e =
+        absurd (false≢true (ap (λ (l : List YearSetting). member (yearNumber (s .0)) (map yearNumber l)) (sym e) ∙ named-member years (s .0) ∙ s .1))
+    go (y ∷ ys) e = (y, ys, e)
+
+module _ (limits : Limits) (b d t z : ℕ) (k : Bool) (e : placedAt limits b ≡ k) (years : Years) (h : someYear years ≡ true) where
   abbrev listOfYear : YearSetting → Settings
   listOfYear y = listAt b d t z 0 (yearNumber y)
 
-  abbrev typeOfYears : Years → TypeRead
-  typeOfYears ys = whereSo k (limitedTo limits (listType (listAt b d t z 0 0) (numbersOf ys)))
+  numbers-first : (y : YearSetting) × (ys : List YearSetting) × (namedYears years ≡ y ∷ ys)
+  numbers-first = some-named years h
 
-  years-joined : (ys : Years) → someYear ys ≡ true → joined limits (map listOfYear (namedYears ys)) ≡ typeOfYears ys
-  unfolding yearFamily
-  years-joined (Years.Plain y) h = go (y .basic) (y .proleptic) h where
-    go : (m n : Bool) → (m || n) ≡ true → joined limits (map listOfYear (namedYears (plain m n))) ≡ typeOfYears (plain m n)
-    go true true h = two-joined limits b d t z 0 1 2 k e refl refl
-    go true false h = one-joined limits b d t z 0 1 k e
-    go false true h = one-joined limits b d t z 0 2 k e
-    go false false h = absurd (false≢true h)
-  years-joined (Years.Signed y) h = go (y .negative) (y .five) h where
-    go : (m n : Bool) → (m || n) ≡ true → joined limits (map listOfYear (namedYears (signed m n))) ≡ typeOfYears (signed m n)
-    go true true h = two-joined limits b d t z 0 3 4 k e refl refl
-    go true false h = one-joined limits b d t z 0 3 k e
-    go false true h = one-joined limits b d t z 0 4 k e
-    go false false h = absurd (false≢true h)
+  -- The lists of a type's Years make the type of the first of them with all these Years.
+  years-joined : (y : YearSetting) (ys : List YearSetting) → namedYears years ≡ y ∷ ys → (rowOfYear (yearSettingAt (yearNumber y)) ≡ yearsRow years)
+      × (joined limits (map listOfYear (namedYears years))
+      ≡ whereSo k (limitedTo limits (listType (listAt b d t z 0 (yearNumber y)) (yearsOf (rowOfYear (yearSettingAt (yearNumber y))) (numbersOf years)))))
+  unfolding allOf
+  years-joined y ys n =
+      let r : allOf (λ x. eqb (rowNumber (rowOfYear (yearSettingAt x))) (rowNumber (yearsRow years))) (yearNumber y ∷ map yearNumber ys) ≡ true =
+      rw n at (numbers-row years) in
+      let l : length (yearNumber y ∷ map yearNumber ys) ≤ mostLists = rw n at (few-numbers years) in
+      let a : apart (yearNumber y ∷ map yearNumber ys) ≡ true = rw n at (numbers-apart years) in
+      let p = and-eq-true-iff (eqb (rowNumber (rowOfYear (yearSettingAt (yearNumber y)))) (rowNumber (yearsRow years))) _ .0 r in (
+        one-number _ _ (eqb-true _ _ (p .0)),
+        rw (n, fused (y ∷ ys)) (lists-joined limits b d t z 0 k e (yearNumber y) (map yearNumber ys) l a (yearsRow years) r),
+      )
+    where
+      fused : (l : List YearSetting) → map listOfYear l ≡ map (listAt b d t z 0) (map yearNumber l)
+      fused [] = refl
+      fused (x ∷ l) = ap (λ (r : List Settings). listOfYear x ∷ r) (fused l)
+
+one-joined : (limits : Limits) (b d t z i : ℕ) (k : Bool) → placedAt limits b ≡ k →
+    joined limits (listAt b d t z i 0 ∷ []) ≡ whereSo k (limitedTo limits (listType (listAt b d t z i 0) (yearsOf (rowOfYear (yearSettingAt 0)) (0 ∷ []))))
+unfolding joined allOf usable distinct datedList timedList listType pointType
+one-joined limits b d t z i true e = rw e
+one-joined limits b d t z i false e = rw e
 
 abbrev unlimited : Parts → Parts
 unlimited (Parts.Date d) = Parts.Date (unlimitedDate (d .form) (d .years))
@@ -448,14 +588,15 @@ module _ (limits : Limits) where
       joined limits (map (dateList (d .form)) (namedYears (d .years))) ≡ limitedTo limits (AnyType.Point (listed (Parts.Date d)))
   unfolding listType pointType datedList timedList
   date-joined d h =
-      years-joined limits 1 (dateNumber (d .form)) 0 0 _ refl (d .years) h
-      ∙ rw (date-setting (d .form) .back, years-back (d .years) h) (limited-again limits (Parts.Date d))
+      let n = some-named (d .years) h in
+      let p = years-joined limits 1 (dateNumber (d .form)) 0 0 _ refl (d .years) h (n .0) (n .1) (n .2) in
+      p .1 ∙ rw (date-setting (d .form) .back, p .0, years-back (d .years)) (limited-again limits (Parts.Date d))
 
   -- The list of a type of times makes that type.
   pub time-joined : (t : TimeType) → joined limits (timeList (t .form) ∷ []) ≡ limitedTo limits (AnyType.Point (listed (Parts.Time t)))
   unfolding listType pointType datedList timedList
   time-joined t =
-      one-joined limits 2 0 (timeCode (t .form .clock) (t .form .digits)) (zoneNumber (t .form .zone)) 0 0 _ refl
+      one-joined limits 2 0 (timeCode (t .form .clock) (t .form .digits)) (zoneNumber (t .form .zone)) 0 _ refl
       ∙ rw (time-back (t .form)) (limited-again limits (Parts.Time t))
 
   -- The lists of a type of dates with times make that type.
@@ -463,10 +604,12 @@ module _ (limits : Limits) where
       joined limits (map (dateTimeList (d .form) (t .form)) (namedYears (d .years))) ≡ limitedTo limits (AnyType.Point (listed (Parts.DateTime d t)))
   unfolding listType pointType datedList timedList
   date-time-joined d t h =
-      years-joined limits 3 (dateNumber (d .form)) (timeCode (t .form .clock) (t .form .digits)) (zoneNumber (t .form .zone)) _ refl (d .years) h
-      ∙ rw (date-setting (d .form) .back, years-back (d .years) h, time-back (t .form)) (limited-again limits (Parts.DateTime d t))
+      let n = some-named (d .years) h in
+      let p = years-joined limits 3 (dateNumber (d .form)) (timeCode (t .form .clock) (t .form .digits)) (zoneNumber (t .form .zone)) _ refl (d .years) h
+      (n .0) (n .1) (n .2) in
+      p .1 ∙ rw (date-setting (d .form) .back, p .0, years-back (d .years), time-back (t .form)) (limited-again limits (Parts.DateTime d t))
 
   -- The list of durations makes its type.
   pub duration-joined : joined limits (durationList ∷ []) ≡ limitedTo limits AnyType.ListedDuration
   unfolding listType pointType datedList timedList limitedTo
-  duration-joined = one-joined limits 4 0 0 0 1 0 _ refl ∙ twice (placed limits false false) _
+  duration-joined = one-joined limits 4 0 0 0 1 _ refl ∙ twice (placed limits false false) _

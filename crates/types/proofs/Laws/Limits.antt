@@ -17,7 +17,7 @@ use Rattle.types.specs.declared.types.Parts.{Parts}
 use Rattle.types.specs.declared.types.TimeType.{TimeType}
 use Rattle.types.specs.declared.types.TypeRead.{TypeRead}
 use Rattle.types.specs.declared.types.Window.{Window}
-use Rattle.types.specs.declared.types.Years.{Years}
+use Rattle.types.specs.declared.years.Years.{Years}
 use Rattle.types.specs.declared.types.«Type».{«Type»}
 use Rattle.types.proofs.Laws.Durations.{OfDurations, named, as-listed, duration-unlimited}
 

@@ -1,6 +1,6 @@
 -- Which types are well-formed: those that settings or the name of a useful time type can give, under any limits, and no others.
 use mathlib.Core.Path.{_≡_, refl}
-use mathlib.Core.Bool.{Bool, true, false, _||_, or-true}
+use mathlib.Core.Bool.{Bool, true, false}
 use Prim.Native.Nat.{ℕ, _≤_}
 use native.Mathlib.Omega.{arith}
 use borrow.Author.Tests.{le-leb, leb-true}
@@ -10,24 +10,22 @@ use Rattle.texts.specs.declared.forms.DateForm.{DateForm}
 use Rattle.texts.specs.declared.forms.ZoneForm.{ZoneForm}
 use Rattle.types.specs.AnyTypes.{DURATION, nameOf, wellFormed}
 use Rattle.types.specs.Types as Points
-use Rattle.types.specs.Types.{DATE, TIME-OF-DAY, DATE-TIME, fewDigits, listed, partsOf, someYear, wellParts}
+use Rattle.types.specs.Types.{DATE, TIME-OF-DAY, DATE-TIME, fewDigits, listed, partsOf, wellParts}
+use Rattle.types.specs.Years.{names, someYear}
 use Rattle.types.specs.declared.types.AnyType.{AnyType}
 use Rattle.types.specs.declared.types.DateType.{DateType}
 use Rattle.types.specs.declared.types.Name.{Name}
 use Rattle.types.specs.declared.types.Parts.{Parts}
-use Rattle.types.specs.declared.types.PlainYears.{PlainYears}
-use Rattle.types.specs.declared.types.SignedYears.{SignedYears}
 use Rattle.types.specs.declared.types.TimeType.{TimeType}
 use Rattle.types.specs.declared.types.Window.{Window}
-use Rattle.types.specs.declared.types.Years.{Years}
+use Rattle.types.specs.declared.years.YearSetting.{YearSetting}
+use Rattle.types.specs.declared.years.Years.{Years}
 use Rattle.types.specs.declared.types.«Type».{«Type»}
+use Rattle.types.proofs.Laws.Years.{named-some, some-named}
 
 -- `Year` is there: one is named.
-pub data SomeYear : Years → Type 0 where
-  basic : (y : PlainYears) → y .basic ≡ true → SomeYear (Years.Plain y)
-  proleptic : (y : PlainYears) → y .proleptic ≡ true → SomeYear (Years.Plain y)
-  negative : (y : SignedYears) → y .negative ≡ true → SomeYear (Years.Signed y)
-  five : (y : SignedYears) → y .five ≡ true → SomeYear (Years.Signed y)
+abbrev pub SomeYear : Years → Type 0
+SomeYear years = (y : YearSetting) × (names years y ≡ true)
 
 -- What settings and names give, whatever the restrictions.
 pub data Givable : AnyType → Type 0 where
@@ -42,16 +40,10 @@ pub data Givable : AnyType → Type 0 where
 
 -- ---- what is given is well-formed
 
-year-test : (y : Years) → SomeYear y → someYear y ≡ true
-year-test y (basic z h) = rw h
-year-test y (proleptic z h) = rw h (or-true (z .basic))
-year-test y (negative z h) = rw h
-year-test y (five z h) = rw h (or-true (z .negative))
-
 pub given-well : (t : AnyType) → Givable t → wellFormed t ≡ true
-given-well t (date-list d y) = rw (year-test (d .years) y)
+given-well t (date-list d y) = some-named (d .years) (y .0) (y .1)
 given-well t (time-list u k) = rw (le-leb (u .form .digits) 9 k)
-given-well t (date-time-list d u y k) = rw (year-test (d .years) y, le-leb (u .form .digits) 9 k)
+given-well t (date-time-list d u y k) = rw (some-named (d .years) (y .0) (y .1), le-leb (u .form .digits) 9 k)
 given-well t duration-list = refl
 given-well t (DATE-named w) = refl
 given-well t (TIME-OF-DAY-named h) = refl
@@ -60,23 +52,11 @@ given-well t DURATION-named = refl
 
 -- ---- and what is well-formed is given
 
-one-year : (y : Years) → someYear y ≡ true → SomeYear y
-one-year (Years.Plain y) h = go (y .basic) refl h
-  where
-    go : (b : Bool) → y .basic ≡ b → (b || y .proleptic) ≡ true → SomeYear (Years.Plain y)
-    go true e k = basic y e
-    go false e k = proleptic y k
-one-year (Years.Signed y) h = go (y .negative) refl h
-  where
-    go : (b : Bool) → y .negative ≡ b → (b || y .five) ≡ true → SomeYear (Years.Signed y)
-    go true e k = negative y e
-    go false e k = five y k
-
 pub well-given : (t : AnyType) → wellFormed t ≡ true → Givable t
-well-given (AnyType.Point («Type».Listed (Parts.Date d))) h = date-list d (one-year (d .years) h)
+well-given (AnyType.Point («Type».Listed (Parts.Date d))) h = date-list d (named-some (d .years) h)
 well-given (AnyType.Point («Type».Listed (Parts.Time t))) h = time-list t (leb-true (t .form .digits) 9 h)
 well-given (AnyType.Point («Type».Listed (Parts.DateTime d t))) h =
-    let p = both (someYear (d .years)) (fewDigits t) h in date-time-list d t (one-year (d .years) (p .0)) (leb-true (t .form .digits) 9 (p .1))
+    let p = both (someYear (d .years)) (fewDigits t) h in date-time-list d t (named-some (d .years) (p .0)) (leb-true (t .form .digits) 9 (p .1))
 well-given (AnyType.Point («Type».Date w)) h = DATE-named w
 well-given (AnyType.Point («Type».TimeOfDay x)) h = TIME-OF-DAY-named x
 well-given (AnyType.Point («Type».DateTime w x)) h = DATE-TIME-named w x
@@ -85,6 +65,7 @@ well-given AnyType.ListedDuration h = duration-list
 
 -- The settings of a well-formed type of points are such as are listed.
 pub well-settings : (t : «Type») → Points.wellFormed t ≡ true → wellParts (partsOf t) ≡ true
+unfolding someYear
 well-settings («Type».Listed p) h = h
 well-settings («Type».Date w) h = refl
 well-settings («Type».TimeOfDay x) h = refl

@@ -1,10 +1,10 @@
 -- `type_text::read_lists` meets its contract.
-use mathlib.Core.Path.{_∙_, ap, sym}
-use Rattle.types.specs.AnyTypes.{foundType}
+use mathlib.Core.Path.{_∙_, sym}
+use mathlib.Core.Bool.{false}
 use native.Mathlib.Omega.{arith}
 use lib.Seq.{length-take-le}
 use borrow.Author.Needs.{needs}
-use Rattle.type_texts.proofs.Laws.TypeTexts.{one-list, too-many, two-lists}
+use Rattle.type_texts.proofs.Laws.TypeTexts.{duration-found, few-joined, one-list, two-lists}
 use Rattle.settings.proofs.type_text.read_lists.Statement.{statement}
 use Rattle.settings.proofs.type_text.read_lists.Tie as tie
 
@@ -17,11 +17,11 @@ slice-aggregate-same c = search needs
 same-requires : tie.Need-same-requires
 same-requires c κs = search needs
 
-limited-requires : tie.Need-limited-requires
-limited-requires c κs = search needs
+unlimited-requires : tie.Need-unlimited-requires
+unlimited-requires c κs = search needs
 
 returns : tie.Need-returns
-returns c = rw (sym (c .before .before .same .ensures) ∙ c .before .if1 .taken) (c .limited .ensures)
+returns c = rw (sym (c .before .before .same .ensures) ∙ c .before .if1 .taken) (c .unlimited .ensures ∙ duration-found _ false)
 
 read-list-requires : tie.Need-read-list-requires
 read-list-requires c κs = search needs
@@ -44,13 +44,20 @@ add-next c = search needs
 find-requires-2 : tie.Need-find-requires-2
 find-requires-2 c κs = search needs
 
+read-all-requires : tie.Need-read-all-requires
+read-all-requires c κs = search needs
+
+join-requires : tie.Need-join-requires
+join-requires c κs = c .read-all .ensures .1
+
 returns-3 : tie.Need-returns-3
 returns-3 c =
-    rw (sym (c .before .before .before .before .same .ensures) ∙ c .before .before .before .if1 .left)
-    (sym
-    (ap foundType
-    (too-many _ _ _ (c .before .before .before .before .before .before .find .ensures) (c .before .before .if2 .left) (c .before .find2 .ensures) _
-    (c .if3 .taken))))
+    rw (
+      sym (c .before .before .before .before .before .before .same .ensures) ∙ c .before .before .before .before .before .if1 .left,
+      ← few-joined,
+      ← c .before .read-all .ensures .0,
+    )
+    (c .join .ensures)
 
 slice-aggregate-read-list : tie.Need-slice-aggregate-read-list
 slice-aggregate-read-list c = sym (length-take-le _ _ (omega arith))
@@ -93,13 +100,15 @@ read-lists-spec =
     find-requires
     slice-aggregate-same
     same-requires
-    limited-requires
+    unlimited-requires
     returns
     read-list-requires
     one-list-requires
     returns-2
     add-next
     find-requires-2
+    read-all-requires
+    join-requires
     returns-3
     slice-aggregate-read-list
     read-list-requires-2

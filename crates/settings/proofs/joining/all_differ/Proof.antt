@@ -1,0 +1,75 @@
+-- `joining::all_differ` meets its contract.
+use mathlib.Core.Path.{_≡_, refl, sym, _∙_}
+use Prim.Native.Nat.{_-_}
+use native.Mathlib.Omega.{arith}
+use lib.ListN.{drop, take}
+use borrow.Author.Needs.{needs}
+use borrow.Author.Tests.{not-false, not-true}
+use Rattle.type_texts.specs.TypeTexts.{distinct}
+use Rattle.type_texts.proofs.Laws.Walks.{distinct-end, distinct-hit, distinct-miss}
+use Rattle.settings.proofs.joining.all_differ.Statement.{statement}
+use Rattle.settings.proofs.joining.all_differ.Tie as tie
+
+abbrev Inv-loop : tie.InvT-loop
+Inv-loop lists items count i₀ i = distinct (take count items) ≡ distinct (drop i (take count items))
+
+abbrev μ-loop : tie.MeasureT-loop
+μ-loop lists items count i₀ i = count - i
+
+loop-holds : tie.Need-loop-holds Inv-loop μ-loop
+loop-holds c = refl
+
+mul-item : tie.Need-mul-item Inv-loop μ-loop
+mul-item c = search needs
+
+array-copy-out-item : tie.Need-array-copy-out-item Inv-loop μ-loop
+array-copy-out-item c = search needs
+
+add-differs : tie.Need-add-differs Inv-loop μ-loop
+add-differs c = search needs
+
+differs-requires : tie.Need-differs-requires Inv-loop μ-loop
+differs-requires c κs = c .before .before .before .before .pre
+
+returns : tie.Need-returns Inv-loop μ-loop
+returns c =
+    let l = c .before .before .before .before in
+    let lists = l .before .before .args .lists in
+    sym (l .loop .inv ∙ distinct-hit lists (l .loop .i) (l .before .before .pre) (c .before .before .before .loop-test .taken) (sym
+    (c .before .differs .ensures) ∙ not-true _ (c .if1 .taken)))
+
+add-i : tie.Need-add-i Inv-loop μ-loop
+add-i c = search needs
+
+loop-less : tie.Need-loop-less Inv-loop μ-loop
+loop-less c = search needs
+
+loop-again : tie.Need-loop-again Inv-loop μ-loop
+loop-again c =
+    let l = c .before .before .before .before in
+    let lists = l .before .before .args .lists in
+    l .loop .inv ∙ distinct-miss lists (l .loop .i) (l .before .before .pre) (c .before .before .before .loop-test .taken) (sym
+    (c .before .differs .ensures) ∙ not-false _ (c .if1 .left))
+
+returns-2 : tie.Need-returns-2 Inv-loop μ-loop
+returns-2 c =
+    let l = c .before in
+    let lists = l .before .before .args .lists in
+    sym (l .loop .inv ∙ distinct-end lists (l .loop .i) (l .before .before .pre) (omega (arith, c .loop-test .left)))
+
+pub all-differ-spec : {M : Type 1} → statement M
+all-differ-spec =
+    tie.close
+    (tie.spec
+    Inv-loop
+    μ-loop
+    loop-holds
+    mul-item
+    array-copy-out-item
+    add-differs
+    differs-requires
+    returns
+    add-i
+    loop-less
+    loop-again
+    returns-2)
