@@ -3,14 +3,14 @@ ghost use Rattle.answers.specs.Counts.{octets_for, filling_for, begun_by};
 
 // A count of bits inside an encoding, or a place with so many bits before it.
 #[repr(C)]
-#[derive(Drop)]
+#[derive(Clone, Copy)]
 pub struct Bits {
     pub count: u32,
 }
 
 // A count of octets outside an encoding, or a place with so many octets before it.
 #[repr(C)]
-#[derive(Drop)]
+#[derive(Clone, Copy)]
 pub struct Octets {
     pub count: usize,
 }

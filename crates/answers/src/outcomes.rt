@@ -7,7 +7,7 @@ use octets::put_octets;
 
 // What every entry point returns: 0 or the number of a refusal, the bit count, and the result's length.
 #[repr(C)]
-#[derive(Drop)]
+#[derive(Clone, Copy)]
 pub struct Outcome {
     pub number: u32,
     pub bits: Bits,

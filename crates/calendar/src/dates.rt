@@ -6,7 +6,7 @@ use crate::weeks::weeks_in_year;
 use crate::years::{Year, year_length};
 
 // A date in one of the six forms: year, month, day; ordinal day; week, weekday.
-#[derive(Drop)]
+#[derive(Clone, Copy)]
 pub enum Date {
     Y(Year),
     YM(Year, u32),

@@ -1,6 +1,8 @@
 // The Gregorian calendar for every year, negative years and year 0000 too: leap years, month lengths,
 // weeks, and which dates exist. Each function takes any input, and its promise is an equation with a
 // definition of specs/ that speaks of the astronomical year.
+#![tactic(auto)]
+
 pub mod dates;
 pub mod exported;
 pub mod months;

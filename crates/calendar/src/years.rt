@@ -4,7 +4,7 @@ ghost use Rattle.calendar.specs.Years.{astronomical_of, distance_of, in32, leap_
 
 // A year. Its number is the astronomical year + 4294967600, a multiple of 400 above 32 bits: every year
 // that is a 32-bit number of years from 0000 has one, and the rules are plain remainders of it.
-#[derive(Drop)]
+#[derive(Clone, Copy)]
 pub struct Year {
     pub number: u64,
 }
@@ -17,14 +17,14 @@ const LOWEST: u64 = 2147483952;
 const HIGHEST: u64 = 6442451247;
 
 // A year turned back into 32 bits: the astronomical year, or that it lies outside them.
-#[derive(Drop)]
+#[derive(Clone, Copy)]
 pub enum Astronomical {
     Within(i32),
     Outside,
 }
 
 // A year by its distance from the year 0000: so many years since it, or before it (then never 0).
-#[derive(Drop)]
+#[derive(Clone, Copy)]
 pub enum Distance {
     Since(u64),
     Before(u64),

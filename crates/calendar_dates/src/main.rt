@@ -2,6 +2,8 @@
 // 1 for a year before 0000 or else 0, and its distance from 0000; then for each of the forms YM, YMD, YD, YW
 // and YWD a line with how many dates exist and the sum of their indices. The index of a date is its one
 // field, or 256 times its first field and its second.
+#![tactic(auto)]
+
 use calendar::{Astronomical, Date, Distance, Year};
 use libc::STDOUT_FILENO;
 
@@ -39,7 +41,7 @@ const YEARS: [i32; 31] = [
     2147483647,
 ];
 
-#[derive(Drop)]
+#[derive(Clone, Copy)]
 enum Form {
     YM,
     YMD,

@@ -1,5 +1,7 @@
 // Prints the calendar of some ranges of years, a line for each year: the year, 1 or 0 for leap or common,
 // the days of the year, its weeks, and the days of its twelve months.
+#![tactic(auto)]
+
 use calendar::{Distance, Year};
 use libc::STDOUT_FILENO;
 

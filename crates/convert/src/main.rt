@@ -2,6 +2,8 @@
 // encoding or the text of octets. A line ends at a newline or at the end of the input, and the reply to a line that asks
 // nothing, or that is too long, is `?`. Replies are written before each read. Where a read or a write fails, the program says
 // so on standard error and stops; a line that the failed read has cut gets no reply.
+#![tactic(auto)]
+
 ghost use Rattle.std.specs.Prelude.{◌+◌, ◌<◌, ◌≤◌, ◌≡◌, length};
 ghost use Rattle.line_replies.specs.Lines.{longest_line};
 ghost use Rattle.line_replies.specs.Rooms.{reply_capacity};

@@ -1,5 +1,7 @@
 // DER (X.690 Amendment 2) of dates, times and durations: a text becomes the element of its value under a type, and octets
 // become the canonical text of theirs.
+#![tactic(auto)]
+
 pub mod decoding;
 pub mod duration;
 pub mod elements;

@@ -5,7 +5,7 @@ ghost use Rattle.der_elements.specs.Elements.{tag_of};
 use types::Name;
 
 // A tag is the first so many of two octets.
-#[derive(Drop)]
+#[derive(Clone, Copy)]
 pub(crate) struct Tag {
     pub(crate) octets: [u8; 2],
     pub(crate) length: usize,

@@ -1,5 +1,5 @@
 // The entry points: encoding or decoding, in unaligned PER or in DER.
-#[derive(Drop)]
+#[derive(Clone, Copy)]
 pub enum Entry {
     PerEncode,
     PerDecode,

@@ -4,7 +4,7 @@ use types::Limits;
 // highest year, `no24` is 0 where hour 24 is allowed, and `counts` is 0 where there is no fewest and no most of
 // recurrences. Any other number says that there is such a limit.
 #[repr(C)]
-#[derive(Drop)]
+#[derive(Clone, Copy)]
 pub struct GivenLimits {
     pub years: u32,
     pub lowest: i32,
@@ -16,7 +16,7 @@ pub struct GivenLimits {
 }
 
 // What limits from C give: a type's limits, or that one of them has its place in no type.
-#[derive(Drop)]
+#[derive(Clone, Copy)]
 pub enum LimitsRead {
     Limits(Limits),
     Misplaced,

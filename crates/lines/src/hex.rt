@@ -4,7 +4,7 @@ ghost use Rattle.line_replies.specs.Lines.{from_hex, hex_digit, hex_number, to_h
 ghost use Rattle.lines.specs.Steps.{count_in, octets_in};
 
 // What hex gives: so many octets at the front of a buffer, or nothing where it is no hex.
-#[derive(Drop)]
+#[derive(Clone, Copy)]
 pub enum Hex {
     Length(usize),
     Bad,

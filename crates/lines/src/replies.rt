@@ -127,7 +127,7 @@ fn entry_reply(entry: Entry, settings: &[u8], input: &[u8], room: &mut [u8]) -> 
 }
 
 // What a work names: an entry point, or nothing that is known.
-#[derive(Drop)]
+#[derive(Clone, Copy)]
 enum Work {
     Entry(Entry),
     Unknown,

@@ -7,10 +7,10 @@ use octets::find;
 
 // The settings of one list: for each property, in the order Basic, Date, Year, Time, Local-or-UTC, Interval-type,
 // the number of its setting, 0 where it is missing. A list that is refused is not readable.
-#[derive(Drop)]
+#[derive(Clone, Copy)]
 pub struct Settings {
     pub readable: bool,
-    pub numbers: [u8; 6],
+    pub numbers: [u32; 6],
 }
 
 // A list before its first pair, and any list that is refused.
@@ -95,7 +95,7 @@ fn list_has_interval(list: Settings) -> bool
 }
 
 // Whether a setting is there exactly if it is wanted.
-fn present_if(wanted: bool, number: u8) -> bool
+fn present_if(wanted: bool, number: u32) -> bool
     ensures { result ≡ present_if wanted number }
 {
     if wanted {

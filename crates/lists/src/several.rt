@@ -8,7 +8,7 @@ use crate::lists::{REFUSED, Settings};
 pub const MOST: usize = 6;
 
 // Up to so many lists: the first of the items.
-#[derive(Drop)]
+#[derive(Clone, Copy)]
 pub struct Lists {
     pub count: usize,
     pub items: [Settings; 6],

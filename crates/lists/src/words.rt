@@ -34,15 +34,15 @@ const ZONE_WORDS: [u8; 46] = *b"\x0ELocal-or-UTC=L\x0ELocal-or-UTC=Z\x0FLocal-or
 const INTERVAL_WORDS: [u8; 16] = *b"\x0FInterval-type=D";
 
 // One pair of a list: the place of its property, and the number of its setting, 0 for none.
-#[derive(Drop)]
+#[derive(Clone, Copy)]
 pub struct Pair {
     pub property: usize,
-    pub setting: u8,
+    pub setting: u32,
 }
 
 // The place of a text among the words of a table, counted from 1, or 0 where it is none of them. The table has so many
 // words, each after its length.
-fn place_in(table: &[u8], words: u8, s: &[u8]) -> u8
+fn place_in(table: &[u8], words: u32, s: &[u8]) -> u32
     requires { Table table.now words }
     ensures { Place table.now words s.now result }
 {
@@ -61,7 +61,7 @@ fn place_in(table: &[u8], words: u8, s: &[u8]) -> u8
 }
 
 // The number of a Time setting with a fraction, or 0 for any other text.
-fn fraction(s: &[u8]) -> u8
+fn fraction(s: &[u8]) -> u32
     ensures { result ≡ fraction_number s.now }
 {
     let n = s.len();
@@ -80,11 +80,11 @@ fn fraction(s: &[u8]) -> u8
     if word == 0 {
         return 0;
     }
-    (digit - b'0') * 10 + word
+    (digit - b'0') as u32 * 10 + word
 }
 
 // The number of a Time setting, or 0 for any other text.
-fn time_word(s: &[u8]) -> u8
+fn time_word(s: &[u8]) -> u32
     ensures { result ≡ first_number (place_in clock_words s.now) (fraction_number s.now) }
 {
     let clock = place_in(&CLOCK_WORDS, 3, &*s);
@@ -95,7 +95,7 @@ fn time_word(s: &[u8]) -> u8
 }
 
 // A property with the number of its setting, or the pair of no setting where that is 0.
-fn pair_or_none(property: usize, setting: u8) -> Pair
+fn pair_or_none(property: usize, setting: u32) -> Pair
     ensures { result ≡ first_of (pair property setting) (pair 5 0) }
 {
     if setting == 0 {

@@ -1,4 +1,6 @@
 // Octets: comparing, finding and storing them. Nothing here knows of dates or of types.
+#![tactic(auto)]
+
 ghost use Rattle.std.specs.Prelude.{◌≡◌, ◌+◌, drop};
 ghost use Rattle.octets.specs.Octets.{eq_list};
 ghost use Rattle.octets.specs.Pieces.{span_to};

@@ -25,14 +25,14 @@ const WIDTHS: [u32; 7] = [5, 4, 6, 5, 5, 6, 6];
 
 // An encoding has its octets at the front of a buffer, with zeros after them. Its bits are counted without those that fill
 // its last octet.
-#[derive(Drop)]
+#[derive(Clone, Copy)]
 pub struct PackedDuration {
     pub octets: [u8; 48],
     pub bits: Bits,
 }
 
 // The numbers of a duration, a component that is not there being 0.
-#[derive(Drop)]
+#[derive(Clone, Copy)]
 struct Numbers {
     values: [u32; 7],
 }

@@ -9,7 +9,7 @@ use answers::Bits;
 
 // A group is so many bits that are not yet packed into octets. They are kept as a number with its width: the number's low
 // bits, as many as the width counts, are the group's, and the number has none above them.
-#[derive(Drop)]
+#[derive(Clone, Copy)]
 pub struct Group {
     pub number: u64,
     pub width: Bits,

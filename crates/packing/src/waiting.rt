@@ -9,7 +9,7 @@ use crate::writing::{Pen, finish, put};
 use answers::Bits;
 
 // A pen with a group whose bits wait to be written there.
-#[derive(Drop)]
+#[derive(Clone, Copy)]
 pub(crate) struct Waiting {
     pub(crate) pen: Pen,
     pub(crate) group: Group,

@@ -1,5 +1,7 @@
 // Unaligned PER (X.691 Amendment 2) of dates, times and durations: a text becomes the octets of its value under a type,
 // and octets become the canonical text of theirs.
+#![tactic(auto)]
+
 pub mod coding;
 pub mod duration;
 

@@ -1,4 +1,6 @@
 // Writing the canonical text of a value, and of a duration.
+#![tactic(auto)]
+
 pub mod canonical;
 pub mod duration;
 mod parts;

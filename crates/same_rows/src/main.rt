@@ -2,6 +2,8 @@
 // and for their numbers of fraction digits; a line `=AB;TYPE;TYPE` asks it of types with limits, where A and B are octets
 // of a menu, for the first and for the second type. The reply is the number of a refusal where one of them is no type, and
 // `?` to any other line. Only so much is read as the buffer holds.
+#![tactic(auto)]
+
 ghost use Rattle.std.specs.Prelude.{◌≡◌, length};
 
 use calendar::Year;

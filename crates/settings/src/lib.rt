@@ -1,4 +1,6 @@
 // Reading a type's text, the name of a useful time type or settings lists, with the limits beside it.
+#![tactic(auto)]
+
 mod joining;
 pub mod type_text;
 

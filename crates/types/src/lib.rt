@@ -1,4 +1,6 @@
 // Type descriptions: what a type says of its values, ready types, limits, and which types select the same rows.
+#![tactic(auto)]
+
 pub mod numbers;
 pub mod rows;
 pub mod types;

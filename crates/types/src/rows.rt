@@ -8,7 +8,7 @@ use crate::years::Years;
 use texts::{ClockForm, TimeForm};
 
 // What decides the rows of Table 2 that a type selects, each setting by its number, 0 where the type has none.
-#[derive(Drop)]
+#[derive(Clone, Copy)]
 pub struct Row {
     pub basic: u32,
     pub date: u32,

@@ -12,14 +12,14 @@ use calendar::Year;
 use texts::{ClockForm, DateForm, Form, TimeForm, ZoneForm};
 
 // The lowest and the highest year of a type, where it has them.
-#[derive(Drop)]
+#[derive(Clone, Copy)]
 pub enum Window {
     Every,
     Within(Year, Year),
 }
 
 // What a type says of its dates: their form, their Year settings, and the lowest and the highest year.
-#[derive(Drop)]
+#[derive(Clone, Copy)]
 pub struct DateType {
     pub form: DateForm,
     pub years: Years,
@@ -27,7 +27,7 @@ pub struct DateType {
 }
 
 // What a type says of its times: their form, and whether hour 24 is allowed.
-#[derive(Drop)]
+#[derive(Clone, Copy)]
 pub struct TimeType {
     pub form: TimeForm,
     pub hour24: bool,
@@ -35,7 +35,7 @@ pub struct TimeType {
 
 // What a type says of its dates, of its times, or of both. So only a type with a date has a window of years, and only a
 // type with a time says whether hour 24 is allowed.
-#[derive(Drop)]
+#[derive(Clone, Copy)]
 pub enum Parts {
     Date(DateType),
     Time(TimeType),
@@ -44,7 +44,7 @@ pub enum Parts {
 
 // A type description: its settings are listed, or it is a useful time type (X.680 34 bis.4), DATE, TIME-OF-DAY or
 // DATE-TIME, of which only the restrictions are kept: the window of years, and whether hour 24 is allowed.
-#[derive(Drop)]
+#[derive(Clone, Copy)]
 pub enum Type {
     Listed(Parts),
     Date(Window),
@@ -54,7 +54,7 @@ pub enum Type {
 
 // The type of a point, that is of a date, a time or both; or of a duration: the useful time type DURATION, or its settings
 // as they are listed, `Basic=Interval Interval-type=D`. A duration has no restriction.
-#[derive(Drop)]
+#[derive(Clone, Copy)]
 pub enum AnyType {
     Point(Type),
     Duration,
@@ -62,7 +62,7 @@ pub enum AnyType {
 }
 
 // Which useful time type a type is, or that its settings are listed. The DER tag goes by it.
-#[derive(Drop)]
+#[derive(Clone, Copy)]
 pub enum Name {
     Listed,
     Date,
@@ -73,7 +73,7 @@ pub enum Name {
 
 // The restrictions that a type may carry, given beside its text: the lowest and the highest year, and whether hour 24 is
 // allowed.
-#[derive(Drop)]
+#[derive(Clone, Copy)]
 pub struct Limits {
     pub window: Window,
     pub hour24: bool,
@@ -88,7 +88,7 @@ impl Limits {
 }
 
 // What a type's text and its limits give: a type, or why there is none. It is what is said of `TypeFound`.
-#[derive(Drop)]
+#[derive(Clone, Copy)]
 pub enum TypeRead {
     Type(AnyType),
     Unreadable,
@@ -97,7 +97,7 @@ pub enum TypeRead {
 
 // What a type's text and its limits give, as it is handed on: the type of a point by itself; a type of durations, and
 // whether its settings are listed; or no type, and whether it is readable lists that share no row.
-#[derive(Drop)]
+#[derive(Clone, Copy)]
 pub enum TypeFound {
     Point(Type),
     Duration(bool),

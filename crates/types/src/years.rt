@@ -2,7 +2,7 @@ ghost use Rattle.std.specs.Prelude.{◌≡◌};
 ghost use Rattle.types.specs.Years.{row_number, row_of_year, some_year, year_setting_at, years_row};
 
 // A Year setting. For Ln a year has n digits after a sign.
-#[derive(Drop)]
+#[derive(Clone, Copy)]
 pub enum YearSetting {
     Basic,
     Proleptic,
@@ -17,21 +17,21 @@ pub enum YearSetting {
 // How a row of X.691's Table 2 has its years. For Basic and Proleptic it is YEAR-ENCODING (28 bis.2.3), the choice of
 // immediate (2005 to 2020), near-future (2021 to 2276), near-past (1749 to 2004) and remainder. For Negative and Ln it is
 // ANY-YEAR-ENCODING (28 bis.2.4), an unconstrained whole number.
-#[derive(Drop)]
+#[derive(Clone, Copy)]
 pub enum YearRow {
     Year,
     AnyYear,
 }
 
 // Which of the Year settings without a sign a type names.
-#[derive(Drop)]
+#[derive(Clone, Copy)]
 pub struct PlainYears {
     pub basic: bool,
     pub proleptic: bool,
 }
 
 // Which of the Year settings with a sign a type names.
-#[derive(Drop)]
+#[derive(Clone, Copy)]
 pub struct SignedYears {
     pub negative: bool,
     pub five: bool,
@@ -42,7 +42,7 @@ pub struct SignedYears {
 }
 
 // The Year settings that a type names, of one row.
-#[derive(Drop)]
+#[derive(Clone, Copy)]
 pub enum Years {
     Plain(PlainYears),
     Signed(SignedYears),

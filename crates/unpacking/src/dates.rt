@@ -15,7 +15,7 @@ use texts::DateForm;
 use types::YearRow;
 
 // A date with the place after it, or nothing.
-#[derive(Drop)]
+#[derive(Clone, Copy)]
 pub enum DateStep {
     Got(Date, Bits),
     Nothing,

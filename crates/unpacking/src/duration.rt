@@ -22,7 +22,7 @@ const RANGES: [u32; 7] = [32, 16, 64, 32, 32, 64, 64];
 const WIDTHS: [u32; 7] = [5, 4, 6, 5, 5, 6, 6];
 
 // The numbers of the components, 0 where one is not present, with the place after them; or nothing that can be read.
-#[derive(Drop)]
+#[derive(Clone, Copy)]
 struct NumbersRead {
     readable: bool,
     values: [u32; 7],
@@ -30,7 +30,7 @@ struct NumbersRead {
 }
 
 // The digits of a fraction and the number that they give, or nothing.
-#[derive(Drop)]
+#[derive(Clone, Copy)]
 pub enum TailStep {
     Got(u32, u32),
     Nothing,

@@ -7,21 +7,21 @@ ghost use Rattle.unpacking.specs.Steps.{number_at, rest, seen, seen_integer, int
 use answers::{Bits, Octets};
 
 // A number with the place after it, or nothing.
-#[derive(Drop)]
+#[derive(Clone, Copy)]
 pub enum Step {
     Got(u32, Bits),
     Nothing,
 }
 
 // An integer by its sign: so much, or so much below 0 (then never 0).
-#[derive(Drop)]
+#[derive(Clone, Copy)]
 pub enum Integer {
     Natural(u32),
     Negative(u32),
 }
 
 // An integer with the place after it, or nothing.
-#[derive(Drop)]
+#[derive(Clone, Copy)]
 pub enum IntegerStep {
     Got(Integer, Bits),
     Nothing,

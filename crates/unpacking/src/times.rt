@@ -10,19 +10,19 @@ use answers::Bits;
 use texts::{Clock, ClockForm, Difference, Time, TimeForm, Zone, ZoneForm, has_digits};
 
 // A part of a time with the place after it, or nothing.
-#[derive(Drop)]
+#[derive(Clone, Copy)]
 pub enum ClockStep {
     Got(Clock, Bits),
     Nothing,
 }
 
-#[derive(Drop)]
+#[derive(Clone, Copy)]
 pub enum ZoneStep {
     Got(Zone, Bits),
     Nothing,
 }
 
-#[derive(Drop)]
+#[derive(Clone, Copy)]
 pub enum TimeStep {
     Got(Time, Bits),
     Nothing,

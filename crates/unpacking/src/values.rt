@@ -11,7 +11,7 @@ use texts::{DateForm, Form, TimeForm, Value};
 use types::YearRow;
 
 // What octets give at a form: a value, or nothing that can be read as one.
-#[derive(Drop)]
+#[derive(Clone, Copy)]
 pub enum ValueRead {
     Value(Value),
     Nothing,

@@ -1,5 +1,7 @@
 // Values under types: which values exist, which a type holds, what a text gives, and the canonical text of a value in
 // lent room. The types, values, texts and answers that these deal in are passed on from their own crates.
+#![tactic(auto)]
+
 pub mod admission;
 pub mod existence;
 pub mod holding;

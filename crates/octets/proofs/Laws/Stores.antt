@@ -62,14 +62,16 @@ module _ {room octets m : List ℕ} {at r : ℕ} where
   put_there e h = let t = le-leb (at + length octets) (length room) h in record { text = rw t at e.1; end = rw t at e.0 }
 
   -- What is to be shown of code that stores octets which have their place in the room.
-  pub put_all : at + length octets ≤ length room → StoredText room m at octets r → (r ≡ place_after room at octets) × (m ≡ room_after room at octets)
+  pub put_all : at + length octets ≤ length room → StoredText room m at octets r
+      → record { value : r ≡ place_after room at octets; room_after : m ≡ room_after room at octets }
   unfolding place_after room_after
-  put_all h s = let t = le-leb (at + length octets) (length room) h in (rw t s.end, rw t s.text)
+  put_all h s = let t = le-leb (at + length octets) (length room) h in record { value = rw t s.end; room_after = rw t s.text }
 
 -- What is to be shown of code that leaves a room as it was because it ends before the octets.
-pub put_nothing : (room octets : List ℕ) (at : ℕ) → length room < at + length octets → (at ≡ place_after room at octets) × (room ≡ room_after room at octets)
+pub put_nothing : (room octets : List ℕ) (at : ℕ) → length room < at + length octets
+    → record { value : at ≡ place_after room at octets; room_after : room ≡ room_after room at octets }
 unfolding place_after room_after
-put_nothing room octets at h = let t = lt-leb (at + length octets) (length room) h in (rw t, rw t)
+put_nothing room octets at h = let t = lt-leb (at + length octets) (length room) h in record { value = rw t; room_after = rw t }
 
 -- octets that were stored at the front of a room that has place for them
 pub put_front : (room octets : List ℕ) {m : List ℕ} → length octets ≤ length room → m ≡ room_after room 0 octets → m ≡ octets ++ drop (length octets) room

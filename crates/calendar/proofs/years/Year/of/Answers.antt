@@ -1,8 +1,6 @@
--- `years::Year::of` meets its contract.
 use mathlib.Core.Path.{◌≡◌, sym, ap, subst, ◌∙◌}
 use Prim.Native.Nat.{ℕ, ◌+◌, ◌≤◌, ◌^◌}
 use native.Mathlib.Omega.{arith}
-use borrow.Author.Rules.{rules}
 use lib.IntN.{ℤ, pos, ◌+ℤ◌, sub_ℕ, nat_abs}
 use lib.Dec.{T}
 use lib.Signed.{non_neg}
@@ -11,11 +9,12 @@ use mir.Val.{Fits, SFits, to_z, of_z}
 use mir.ValLaws.{to_z-of_z}
 use Rattle.calendar.specs.Years.{astronomical_of}
 use Rattle.calendar.proofs.Laws.Years.{Shifted, shifted}
-use Rattle.calendar.proofs.years.Year.of.Statement.{statement}
-use Rattle.calendar.proofs.years.Year.of.Tie as tie
+use Rattle.calendar.proofs.years.Year.of.Goals as goal
+use Rattle.calendar.proofs.years.Year.of.Goals.{Start}
 
+-- `years::Year::of` meets its contract.
 -- the year, and what the machine makes of it when it adds k
-module _ (c : tie.Start) where
+module _ (c : Start) where
   abbrev y : ℤ
   y = c.args.astronomical
 
@@ -44,21 +43,15 @@ module _ (c : tie.Start) where
     made : sub_ℕ (nat_abs (to_z w64 (of_z w64 (read +ℤ pos k)))) k ≡ y
     made = ap (λ (z : ℤ). sub_ℕ (nat_abs z) k) back ∙ s.back
 
-cast-t2 : tie.Need-overflow-cast-t2
-cast-t2 c = subst (SFits w64) (sym (to_z-of_z w32 (y c) c.ranges.astronomical)) (wide c)
+pub overflow_cast-result : goal.overflow_cast-result
+overflow_cast-result c = subst (SFits w64) (sym (to_z-of_z w32 (y (goal.at.overflow_cast-result c).Start) c.ranges.astronomical)) (wide (goal.at.overflow_cast-result c).Start)
 
-cast-t3 : tie.Need-overflow-cast-t3
-cast-t3 c = search rules
+pub overflow_add-result : goal.overflow_add-result
+overflow_add-result c = fits (goal.at.overflow_add-result c).Start _ (omega arith) (omega arith)
 
-add-t4 : tie.Need-overflow-add-t4
-add-t4 c = fits c _ (omega arith) (omega arith)
+pub overflow_cast-result-3 : goal.overflow_cast-result-3
+overflow_cast-result-3 c = casts (goal.at.overflow_cast-result-3 c).Start _ (omega arith) (omega arith)
 
-cast-t5 : tie.Need-overflow-cast-t5
-cast-t5 c = casts c _ (omega arith) (omega arith)
-
-returns : tie.Need-returns
+pub returns : goal.returns
 unfolding astronomical_of
-returns c = made c _ (omega arith) (omega arith)
-
-pub of_spec : {M : Type 1} → statement M
-of_spec = tie.close (tie.spec cast-t2 cast-t3 add-t4 cast-t5 returns)
+returns c = made (goal.at.returns c).Start _ (omega arith) (omega arith)
