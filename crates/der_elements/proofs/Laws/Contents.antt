@@ -26,7 +26,7 @@ use Rattle.texts.specs.declared.forms.ZoneForm.{ZoneForm}
 use Rattle.texts.specs.declared.values.Clock.{Clock}
 use Rattle.texts.specs.declared.values.Time.{Time}
 use Rattle.texts.specs.declared.values.Zone.{Zone}
-use Rattle.texts.proofs.Laws.Digits.{is_digit, length_put}
+use Rattle.texts.proofs.Laws.Digits.{is_digit_lem, length_put}
 use Rattle.durations.specs.Texts.{letter_p}
 use Rattle.types.specs.Types.{hms_local, with_window, ymd_basic}
 use Rattle.types.specs.declared.types.Name.{Name}
@@ -54,10 +54,10 @@ kept-digits name zero n r = refl
 kept-digits name (suc w) n r =
     simp (append_assoc, kept-digits name w (n / 10) ((48 + n % 10) ∷ r), digit_kept name (48 + n % 10) (omega arith) (omega arith))
 
-all_digits : (w n : ℕ) (r : List ℕ) → all_digits (put_digits w n ++ r) ≡ all_digits r
+all_digits_lem : (w n : ℕ) (r : List ℕ) → all_digits (put_digits w n ++ r) ≡ all_digits r
 unfolding all_digits put_digits
-all_digits zero n r = refl
-all_digits (suc w) n r = rw (append_assoc, all_digits w (n / 10) ((48 + n % 10) ∷ r), is_digit (48 + n % 10) (omega arith) (omega arith))
+all_digits_lem zero n r = refl
+all_digits_lem (suc w) n r = rw (append_assoc, all_digits_lem w (n / 10) ((48 + n % 10) ∷ r), is_digit_lem (48 + n % 10) (omega arith) (omega arith))
 
 -- No text is longer without some of its octets.
 pub without_most : (p : ℕ → Bool) (l : List ℕ) → length (without p l) ≤ length l
@@ -132,7 +132,7 @@ module _ (c w a b d : ℕ) where
   fields-length = simp (length-append, length_put) (omega arith)
 
   pub fields_all : (r : List ℕ) → all_digits (fields_digits w a b d ++ r) ≡ all_digits r
-  fields_all r = simp (append_assoc, all_digits)
+  fields_all r = simp (append_assoc, all_digits_lem)
 
 -- ---- dates and times under the three names
 

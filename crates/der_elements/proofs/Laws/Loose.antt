@@ -71,19 +71,19 @@ separated-kept name c w l o a =
     ∙ ap (without (omits name)) (ap (λ (r : List ℕ). take w l ++ r) (take-append-drop 2 (drop w l)) ∙ take-append-drop w l)
     ∙ kept_all name l a)
 
-digits_in : (n : ℕ) (l : List ℕ) → digits_only n l ≡ true → all_digits l ≡ true
+digits_in_lem : (n : ℕ) (l : List ℕ) → digits_only n l ≡ true → all_digits l ≡ true
 unfolding digits_only
-digits_in n l e = (both (eqb (length l) n) (all_digits l) e).1
+digits_in_lem n l e = (both (eqb (length l) n) (all_digits l) e).1
 
 -- Under every name they are the text without its separators.
 pub stands_for : (name : Name) (l text : List ℕ) → StandsFor name l text → contents_of name text ≡ l
 unfolding contents_of without
 stands_for Name.Listed l text e = without_none text ∙ e
-stands_for Name.Date l text e = ap (without (omits Name.Date)) e.1 ∙ separated-kept Name.Date hyphen 4 l refl (digits_in 8 l e.0)
-stands_for Name.TimeOfDay l text e = ap (without (omits Name.TimeOfDay)) e.1 ∙ separated-kept Name.TimeOfDay colon 2 l refl (digits_in 6 l e.0)
+stands_for Name.Date l text e = ap (without (omits Name.Date)) e.1 ∙ separated-kept Name.Date hyphen 4 l refl (digits_in_lem 8 l e.0)
+stands_for Name.TimeOfDay l text e = ap (without (omits Name.TimeOfDay)) e.1 ∙ separated-kept Name.TimeOfDay colon 2 l refl (digits_in_lem 6 l e.0)
 stands_for Name.Duration l text e = absurd e
 stands_for Name.DateTime l text e =
-    let d = digits_both (take 8 l) (drop 8 l) (rw (take-append-drop 8 l) (digits_in 14 l e.0)) in
+    let d = digits_both (take 8 l) (drop 8 l) (rw (take-append-drop 8 l) (digits_in_lem 14 l e.0)) in
     ap (without (omits Name.DateTime)) e.1
     ∙ without-append (omits Name.DateTime) (dated (take 8 l)) (letter_t ∷ timed (drop 8 l))
     ∙ rw (separated-kept Name.DateTime hyphen 4 (take 8 l) refl d.0, separated-kept Name.DateTime colon 2 (drop 8 l) refl d.1)

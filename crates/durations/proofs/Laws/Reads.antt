@@ -151,13 +151,13 @@ unfolding put_part
 put_some c n d f = simp length-append (omega arith)
 
 -- From nothing no component is read.
-pub none_read : (ls : List ℕ) (ps : List Part) (r : List ℕ) → length ps ≡ length ls → [] ≡ put_parts ls ps ++ r → any_present ps ≡ false
+pub none_read_lem : (ls : List ℕ) (ps : List Part) (r : List ℕ) → length ps ≡ length ls → [] ≡ put_parts ls ps ++ r → any_present ps ≡ false
 unfolding put_parts any_present
-none_read [] [] r n e = refl
-none_read [] (p ∷ ps) r n e = absurd (omega arith)
-none_read (c ∷ cs) [] r n e = refl
-none_read (c ∷ cs) (absent ∷ ps) r n e = none_read cs ps r (omega arith) (e ∙ rw (absent_put c))
-none_read (c ∷ cs) (present x d f ∷ ps) r n e =
+none_read_lem [] [] r n e = refl
+none_read_lem [] (p ∷ ps) r n e = absurd (omega arith)
+none_read_lem (c ∷ cs) [] r n e = refl
+none_read_lem (c ∷ cs) (absent ∷ ps) r n e = none_read_lem cs ps r (omega arith) (e ∙ rw (absent_put c))
+none_read_lem (c ∷ cs) (present x d f ∷ ps) r n e =
     let k : 0 ≡ length (put_part c (present x d f)) + length (put_parts cs ps) + length r = ap length e ∙ simp length-append in
     absurd (omega (arith, put_some c x d f))
 
@@ -169,18 +169,18 @@ empty (x ∷ l) e = absurd (omega (arith, leb-true (suc (length l)) 0 e))
 not-false : (b : Bool) → b ≡ false → not b ≡ true
 not-false b e = rw e
 
-pub parts_from : (ls l : List ℕ) (ps : List Part) (r : List ℕ) → AllPos ls → get_parts ls l ≡ found ps r → PartsFrom ls l ps r
+pub parts_from_lem : (ls l : List ℕ) (ps : List Part) (r : List ℕ) → AllPos ls → get_parts ls l ≡ found ps r → PartsFrom ls l ps r
 unfolding get_parts AllPos
-parts_from [] l ps r o e =
+parts_from_lem [] l ps r o e =
     let a : [] ≡ ps = cc in
     let b : l ≡ r = cc in
     subst (λ (x : List Part). PartsFrom [] l x r) a (subst (λ (x : List ℕ). PartsFrom [] l [] x) b
     (record { is = unfold put_parts in refl; fits = unfold AllFit in tt; count = refl; tidied = unfold tidy in refl; ended = unfold bare in refl }))
-parts_from (c ∷ cs) l ps r o e =
+parts_from_lem (c ∷ cs) l ps r o e =
     let b = onward-found (get_part c l) _ ps r e in
     let p = part_from c l b.0 b.1 o.0 b.2 in
     let d = onward-found (get_parts cs b.1) _ ps r b.3 in
-    let q = parts_from cs b.1 d.0 d.1 o.1 d.2 in
+    let q = parts_from_lem cs b.1 d.0 d.1 o.1 d.2 in
     let v : b.0 ∷ d.0 ≡ ps = let z = d.3 in cc in
     let w : d.1 ≡ r = let z = d.3 in cc in
     subst (λ (x : List Part). PartsFrom (c ∷ cs) l x r) v (subst (λ (x : List ℕ). PartsFrom (c ∷ cs) l (b.0 ∷ d.0) x) w
@@ -198,7 +198,7 @@ parts_from (c ∷ cs) l ps r o e =
       where
         first : (t : Bool) → (t || leb (length k) 0) ≡ true → (t || not (any_present qs)) ≡ true
         first true e = refl
-        first false e = not-false (any_present qs) (none_read cs qs s h.count (sym (empty k e) ∙ h.is))
+        first false e = not-false (any_present qs) (none_read_lem cs qs s h.count (sym (empty k e) ∙ h.is))
 
         both_ended : (t : Bool) → (t || leb (length k) 0) ≡ true → (t && bare qs || leb (length s) 0) ≡ true
         both_ended true e = h.ended

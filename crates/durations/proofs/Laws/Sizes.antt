@@ -27,9 +27,9 @@ unfolding put_fraction
 fraction-length zero f = omega arith
 fraction-length (suc d) f = rw (ne_eqb (suc d) 0 (λ z. omega arith), length_put (suc d) f.number) (omega arith)
 
-no_fraction : (f : Fraction) → length (put_fraction 0 f) ≡ 0
+no_fraction_lem : (f : Fraction) → length (put_fraction 0 f) ≡ 0
 unfolding put_fraction
-no_fraction f = refl
+no_fraction_lem f = refl
 
 part_length : (l n d : ℕ) (f : Fraction) → n < 10 ^ 9 → length (put_part l (present n d f)) ≤ 10 + length (put_fraction d f)
 unfolding put_part put_number
@@ -77,7 +77,7 @@ tidy_weights (present n d f ∷ ps) h t =
     go : (z : Bool) → eqb d 0 ≡ z → (z || not (any_present ps)) ≡ true → weights ps ≤ 10 * count ps + 10
         → 10 + length (put_fraction d f) + weights ps ≤ 10 * suc (count ps) + 10
     go true z e i =
-        let q : length (put_fraction d f) ≡ 0 = rw (eqb-true d 0 z) (no_fraction f) in
+        let q : length (put_fraction d f) ≡ 0 = rw (eqb-true d 0 z) (no_fraction_lem f) in
         omega arith
     go false z e i =
         let s : any_present ps ≡ false = none (any_present ps) e in

@@ -209,19 +209,19 @@ numbers-seven (a ∷ b ∷ c ∷ d ∷ e ∷ f ∷ []) n = absurd (omega arith)
 numbers-seven (a ∷ b ∷ c ∷ d ∷ e ∷ f ∷ g ∷ x ∷ ps) n = absurd (omega arith)
 
 -- The number at a place where no component is.
-number_at : (i : ℕ) (ps : List Part) → is_present (part_at i ps) ≡ false → get_or (numbers ps) i 0 ≡ 0
+number_at_lem : (i : ℕ) (ps : List Part) → is_present (part_at i ps) ≡ false → get_or (numbers ps) i 0 ≡ 0
 unfolding part_at numbers
-number_at i [] e = refl
-number_at zero (absent ∷ ps) e = refl
-number_at zero (present n d f ∷ ps) e = absurd (false≢true (sym e))
-number_at (suc i) (p ∷ ps) e = number_at i ps e
+number_at_lem i [] e = refl
+number_at_lem zero (absent ∷ ps) e = refl
+number_at_lem zero (present n d f ∷ ps) e = absurd (false≢true (sym e))
+number_at_lem (suc i) (p ∷ ps) e = number_at_lem i ps e
 
 weeks-alone : (ps : List Part) → length ps ≡ 7 → AllFit ps → tidy ps ≡ true → well_made ps ≡ true → weeks_alone (duration_of ps) ≡ true
 unfolding weeks_alone duration_of
 weeks-alone ps n h t w = go (eqb (last_in ps) 2) refl
   where
     other : (i : ℕ) → (i ≡ last_in ps → ⊥) → count ps ≡ 1 → get_or (numbers ps) i 0 ≡ 0
-    other i d c = by_test (is_present (part_at i ps)) (λ e. absurd (d (only_last i ps c e))) (λ e. number_at i ps e)
+    other i d c = by_test (is_present (part_at i ps)) (λ e. absurd (d (only_last i ps c e))) (λ e. number_at_lem i ps e)
 
     go : (b : Bool) → eqb (last_in ps) 2 ≡ b → cond b (eqb (get_or (numbers ps) 0 0) 0 && eqb (get_or (numbers ps) 1 0) 0) (eqb (get_or (numbers ps) 2 0) 0) ≡ true
     go true b =
@@ -231,7 +231,7 @@ weeks-alone ps n h t w = go (eqb (last_in ps) 2) refl
         rw (other 0 (λ q. omega arith) c, other 1 (λ q. omega arith) c)
     go false b =
         let z : last_in ps ≡ 2 → ⊥ = eqb-false (last_in ps) 2 b in
-        by_test (is_present (part_at 2 ps)) (λ e. absurd (z (sym (weeks_last ps n h t w e).0))) (λ e. rw (number_at 2 ps e))
+        by_test (is_present (part_at 2 ps)) (λ e. absurd (z (sym (weeks_last ps n h t w e).0))) (λ e. rw (number_at_lem 2 ps e))
 
 -- What is made of them exists, ..
 pub made-exists : (ps : List Part) → length ps ≡ 7 → AllFit ps → tidy ps ≡ true → well_made ps ≡ true → exists_duration (duration_of ps) ≡ true

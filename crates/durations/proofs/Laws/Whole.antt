@@ -15,7 +15,7 @@ use Rattle.octets.proofs.Laws.Found.{onward-found, cond-found}
 use Rattle.durations.specs.Parts.{Part, absent, is_present, digits_in, count, any_present}
 use Rattle.durations.specs.Texts.{letter_p, date_letters, time_letters, put_parts, put_times, put_duration, put_all, get_parts, get_times, get_duration}
 use Rattle.durations.proofs.Laws.Made.{AllFit, tidy}
-use Rattle.durations.proofs.Laws.Reads.{PartsFrom, bare, parts_from, empty, date_pos, time_pos}
+use Rattle.durations.proofs.Laws.Reads.{PartsFrom, bare, parts_from_lem, empty, date_pos, time_pos}
 
 -- ---- the text
 
@@ -48,7 +48,7 @@ times_from l ts r = go (eqb (first_octet l) letter_t) refl
     go true b e =
         let x = onward-found (get_parts time_letters (drop 1 l)) _ ts r e in
         let c = cond-found (any_present x.0) _ ts r x.3 in
-        let p = parts_from time_letters (drop 1 l) x.0 x.1 time_pos x.2 in
+        let p = parts_from_lem time_letters (drop 1 l) x.0 x.1 time_pos x.2 in
         let v : x.0 ≡ ts = let z = c.1 in cc in
         let w : x.1 ≡ r = let z = c.1 in cc in
         let h = head_T l b in
@@ -121,7 +121,7 @@ duration-from l ps e =
     let h = cond-found (eqb (first_octet l) letter_p) _ ps [] e in
     let x = onward-found (get_parts date_letters (drop 1 l)) _ ps [] h.1 in
     let y = onward-found (get_times x.1) _ ps [] x.3 in
-    let p = parts_from date_letters (drop 1 l) x.0 x.1 date_pos x.2 in
+    let p = parts_from_lem date_letters (drop 1 l) x.0 x.1 date_pos x.2 in
     let q = times_from x.1 y.0 y.1 y.2 in
     let v : x.0 ++ y.0 ≡ ps = let z = y.3 in cc in
     let w : y.1 ≡ [] = let z = y.3 in cc in

@@ -52,9 +52,9 @@ text-number (TextRead.Value v s) e = absurd (let z : ◌≡◌ {A = ℕ} 0 1 = c
 text-number TextRead.NotOfForm e = refl
 
 -- The number of what a text gives is 0 where a value is read.
-pub number_read : (r : TextRead) (v : Value) → of_text r ≡ some v → text_number r ≡ 0
-number_read (TextRead.Value w s) v e = refl
-number_read TextRead.NotOfForm v e = absurd (let z : ◌≡◌ {A = ℕ} 0 1 = cc in omega arith)
+pub number_read_lem : (r : TextRead) (v : Value) → of_text r ≡ some v → text_number r ≡ 0
+number_read_lem (TextRead.Value w s) v e = refl
+number_read_lem TextRead.NotOfForm v e = absurd (let z : ◌≡◌ {A = ℕ} 0 1 = cc in omega arith)
 
 -- A text that gives a value is one of the value's texts.
 pub text-of : (f : Form) (l : List ℕ) (v : Value) (r : TextRead) → read_of f l ≡ r → of_text r ≡ some v → (s : Spelling) × (l ≡ render s v)

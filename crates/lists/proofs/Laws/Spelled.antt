@@ -128,15 +128,15 @@ data FractionWord (u : List ℕ) : ℕ → Type 0 where
   HMSF : u ≡ bytes "Time=HMSF" → FractionWord u 3
   no : FractionWord u 0
 
-no_fraction : (u : List ℕ) (k : ℕ) → FractionWord u (place_from k [] u)
+no_fraction_lem : (u : List ℕ) (k : ℕ) → FractionWord u (place_from k [] u)
 unfolding place_from
-no_fraction u k = no
+no_fraction_lem u k = no
 
 fraction_word : (u : List ℕ) → FractionWord u (place_in fraction_words u)
 fraction_word u =
     place_case u (FractionWord u) 1 "Time=HF" _ HF
     (place_case u (FractionWord u) 2 "Time=HMF" _ HMF
-    (place_case u (FractionWord u) 3 "Time=HMSF" _ HMSF (no_fraction u 4)))
+    (place_case u (FractionWord u) 3 "Time=HMSF" _ HMSF (no_fraction_lem u 4)))
 
 fraction-spelled : (w : List ℕ) → Spelled-in w 3 (fraction_number w)
 unfolding fraction_number

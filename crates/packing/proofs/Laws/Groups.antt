@@ -98,10 +98,10 @@ module _ {l : List Field} {f : Field} {bs : BitString} where
 
 -- ---- the fraction's and the difference's fields by the code's tests
 
-pub no_fraction : (n f : ℕ) → n ≡ 0 → layout (fraction_fields n f) ≡ []
+pub no_fraction_lem : (n f : ℕ) → n ≡ 0 → layout (fraction_fields n f) ≡ []
 unfolding fraction_fields layout
-no_fraction zero f e = refl
-no_fraction (suc n) f e = absurd (omega arith)
+no_fraction_lem zero f e = refl
+no_fraction_lem (suc n) f e = absurd (omega arith)
 
 pub short-fraction : (n f : ℕ) → n ≢ 0 → f < 1000 → fraction_fields n f ≡ Ranged 2 0 ∷ Ranged 1000 f ∷ []
 unfolding fraction_fields

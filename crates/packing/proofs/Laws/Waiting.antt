@@ -102,8 +102,8 @@ closed_added {room} {out} {w} {r} e h {cs} k =
     ∙ ap (octets_of cs ++◌) (kept out room r.pen.octets.count (length (octets_of cs)) l e.rest)
 
 -- Where none is written, all bits wait.
-pub none_written : (out : List ℕ) (w : Waiting) → none_written w ≡ true → waiting_bits out w ≡ group_bits w.group
+pub none_written_lem : (out : List ℕ) (w : Waiting) → none_written w ≡ true → waiting_bits out w ≡ group_bits w.group
 unfolding none_written bits_of unpacked
-none_written out w h =
+none_written_lem out w h =
     let p = both (eqb w.pen.octets.count 0) (eqb w.pen.held.count 0) h in
     rw (eqb-true w.pen.octets.count 0 p.0, eqb-true w.pen.held.count 0 p.1)

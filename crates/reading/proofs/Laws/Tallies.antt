@@ -16,7 +16,7 @@ use Rattle.durations.specs.Parts.{last_in, of_last, numbers, part_at, well_made}
 use Rattle.durations.specs.Durations.{duration_of}
 use Rattle.durations.specs.Texts.{letter_p, date_letters, time_letters, get_present, get_part, get_parts, get_times, get_duration}
 use Rattle.durations.specs.Texts.{whole_duration, read_duration}
-use Rattle.durations.proofs.Laws.Reads.{parts_from, date_pos, time_pos}
+use Rattle.durations.proofs.Laws.Reads.{parts_from_lem, date_pos, time_pos}
 use Rattle.reading.proofs.Laws.Places.{drop_at}
 use Rattle.reading.specs.declared.steps.Component.{Component}
 use Rattle.reading.specs.declared.steps.Tally.{Tally}
@@ -265,7 +265,7 @@ dates_read : (l : List ℕ) (t : Tally) (r : List ℕ) → found t r ≡ added_b
 unfolding added_by
 dates_read l t r e =
     let x = onward-found (get_parts date_letters l) _ t r (sym e) in
-    let n = (parts_from date_letters l x.0 x.1 date_pos x.2).count in
+    let n = (parts_from_lem date_letters l x.0 x.1 date_pos x.2).count in
     let u : with_parts none_read 0 x.0 ≡ t = let z = x.3 in cc in
     let v : x.1 ≡ r = let z = x.3 in cc in
     let m : 7 ≡ length x.0 + 3 = omega arith in
@@ -315,7 +315,7 @@ module _ (l : List ℕ) (p : eqb (first_octet l) letter_p ≡ true) (t : Tally) 
           ≡ timed_tally t (onward m λ ts q. found (with_parts t 4 ts) q)
       go ds a n nothing z = refl
       go ds a n (found ts q) z =
-          let c = (parts_from time_letters (drop 1 r) ts q time_pos z).count in
+          let c = (parts_from_lem time_letters (drop 1 r) ts q time_pos z).count in
           let m : 3 ≡ length ts + 0 = omega arith in
           let k : Tallies (ds ++ ts) 0 (with_parts t (length ds) ts) = tallies_all ds ts 0 t (subst (λ (x : ℕ). Tallies ds x t) m a) in
           more ds ts q (with_parts t 4 ts) a (subst (λ (x : ℕ). Tallies (ds ++ ts) 0 (with_parts t x ts)) n k) (any_present ts) refl

@@ -123,18 +123,18 @@ value-carried (Value.DateTime d t) e = let p = and (date_carried d) (time_carrie
 
 -- ---- and what is so is carried
 
-from_one : (highest n : ℕ) → 1 ≤ n → n ≤ highest → from_one highest n ≡ true
+from_one_lem : (highest n : ℕ) → 1 ≤ n → n ≤ highest → from_one highest n ≡ true
 unfolding from_one
-from_one highest n h l = simp (le-leb 1 n h, le-leb n highest l)
+from_one_lem highest n h l = simp (le-leb 1 n h, le-leb n highest l)
 
 in_day : (d : Date) → InRange d → day_carried d ≡ true
 unfolding day_carried
 in_day (Date.Y y) r = refl
-in_day (Date.YM y m) r = from_one 12 m r.0 r.1
-in_day (Date.YMD y m d) r = simp (from_one 12 m r.0 r.1, from_one 31 d r.2 r.3)
-in_day (Date.YD y d) r = from_one 366 d r.0 r.1
-in_day (Date.YW y w) r = from_one 53 w r.0 r.1
-in_day (Date.YWD y w d) r = simp (from_one 53 w r.0 r.1, from_one 7 d r.2 r.3)
+in_day (Date.YM y m) r = from_one_lem 12 m r.0 r.1
+in_day (Date.YMD y m d) r = simp (from_one_lem 12 m r.0 r.1, from_one_lem 31 d r.2 r.3)
+in_day (Date.YD y d) r = from_one_lem 366 d r.0 r.1
+in_day (Date.YW y w) r = from_one_lem 53 w r.0 r.1
+in_day (Date.YWD y w d) r = simp (from_one_lem 53 w r.0 r.1, from_one_lem 7 d r.2 r.3)
 
 in_date : (d : Date) → DateInFields d → date_carried d ≡ true
 unfolding date_carried
@@ -148,7 +148,7 @@ in_clock (Clock.HMS h m s) r = simp (le-leb h 24 r.0, le-leb m 59 r.1, le-leb s 
 
 in_hours : (d : Difference) → DifferenceInFields d → (b : Bool) → d.behind ≡ b → hours_carried b d.hours ≡ true
 unfolding hours_carried
-in_hours d r true e = let p = r.behind e in from_one 15 d.hours p.0 p.1
+in_hours d r true e = let p = r.behind e in from_one_lem 15 d.hours p.0 p.1
 in_hours d r false e = le-leb d.hours 16 (r.ahead e)
 
 in_zone : (z : Zone) → ZoneInFields z → zone_carried z ≡ true

@@ -334,9 +334,9 @@ module _ (limits : Limits) (l : List ℕ) (t : AnyType) (h : type_of limits l �
   first_list (a_duration q e) = alone AnyType.ListedDuration refl duration_pairs refl q (undated (rw e) (rw e))
 
 module _ (limits : Limits) (l : List ℕ) (t : AnyType) (h : type_of limits l ≡ TypeRead.«Type» t) where
-  of_row : (b : Bool) (r : TypeRead) → cond b r TypeRead.NoRow ≡ TypeRead.«Type» t → b ≡ true
-  of_row true r e = refl
-  of_row false r e = absurd (let z : ◌≡◌ {A = ℕ} 0 1 = cc in omega arith)
+  of_row_lem : (b : Bool) (r : TypeRead) → cond b r TypeRead.NoRow ≡ TypeRead.«Type» t → b ≡ true
+  of_row_lem true r e = refl
+  of_row_lem false r e = absurd (let z : ◌≡◌ {A = ℕ} 0 1 = cc in omega arith)
 
   passed : (b : Bool) (r : TypeRead) → cond b r TypeRead.Unreadable ≡ TypeRead.«Type» t → (b ≡ true) × (r ≡ TypeRead.«Type» t)
   passed true r e = (refl, e)
@@ -352,7 +352,7 @@ module _ (limits : Limits) (l : List ℕ) (t : AnyType) (h : type_of limits l �
           let c = passed (leb (length (map list_of (p ∷ ps))) most_lists && all_of (usable limits) (map list_of (p ∷ ps)) && distinct (map list_of (p ∷ ps))) _ j in
           let a = (and-eq-true_iff (leb (length (map list_of (p ∷ ps))) most_lists && all_of (usable limits) (map list_of (p ∷ ps))) _).0 c.0 in
           let u = (and-eq-true_iff (leb (length (map list_of (p ∷ ps))) most_lists) _).0 a.0 in
-          let o = of_row (all_of (one_row (list_of p)) (map list_of ps)) _ c.1 in
+          let o = of_row_lem (all_of (one_row (list_of p)) (map list_of ps)) _ c.1 in
           first_list limits l t h p ps e u.1 a.1 o (list_arranged p (first_read limits p ps u.1))
 
 -- ---- the law

@@ -19,7 +19,7 @@ use Rattle.type_texts.proofs.Laws.ListOrder.{one_number}
 
 -- "all of one row, no Year twice" (#103): Basic with Proleptic, or two of Negative and L5 to L9, in either order.
 pub data YearPair : ℕ → ℕ → Type 0 where
-  of_row : (x y : YearSetting) → row_of_year x ≡ row_of_year y → x ≢ y → YearPair (year_number x) (year_number y)
+  of_row_lem : (x y : YearSetting) → row_of_year x ≡ row_of_year y → x ≢ y → YearPair (year_number x) (year_number y)
 
 -- "lists that differ only in Year, all of one row, no Year twice" (#103).
 pub record OnlyYears (s t : Settings) : Type 0 where
@@ -116,10 +116,10 @@ family x y e = go (eqb (year_number x) (year_number y)) refl
 
     go : (b : Bool) → eqb (year_number x) (year_number y) ≡ b → (year_number x ≡ year_number y) ⊎ YearPair (year_number x) (year_number y)
     go true h = inl (eqb-true _ _ h)
-    go false h = inr (of_row x y row (λ z. eqb-false _ _ h (ap year_number z)))
+    go false h = inr (of_row_lem x y row (λ z. eqb-false _ _ h (ap year_number z)))
 
 family_of : (m n : ℕ) → YearPair m n → eqb (row_number (row_of_year (year_setting_at m))) (row_number (row_of_year (year_setting_at n))) ≡ true
-family_of m n (of_row x y e d) = rw (year_back x, year_back y) (eq-eqb (row_number (row_of_year x)) (row_number (row_of_year y)) (ap row_number e))
+family_of m n (of_row_lem x y e d) = rw (year_back x, year_back y) (eq-eqb (row_number (row_of_year x)) (row_number (row_of_year y)) (ap row_number e))
 
 -- Lists that differ only in Year, in two Years of one row, are one row.
 pub only_years_row : (s t : Settings) → OnlyYears s t → one_row s t ≡ true

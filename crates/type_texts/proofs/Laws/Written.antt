@@ -381,9 +381,9 @@ module _ (limits : Limits) (b d t z i : ℕ) where
   unfolding equal_lists same_but_year
   equal_years y x = rw (self b, self d, self t, self z, self i)
 
-  same_row : (y x : ℕ) → row_of_year (year_setting_at y) ≡ row_of_year (year_setting_at x) → one_row (at y) (at x) ≡ true
+  same_row_lem : (y x : ℕ) → row_of_year (year_setting_at y) ≡ row_of_year (year_setting_at x) → one_row (at y) (at x) ≡ true
   unfolding one_row same_but_year
-  same_row y x e = rw (self b, self d, self t, self z, self i, eq-eqb (row_number (row_of_year (year_setting_at y))) _ (ap row_number e))
+  same_row_lem y x e = rw (self b, self d, self t, self z, self i, eq-eqb (row_number (row_of_year (year_setting_at y))) _ (ap row_number e))
 
   not_among : (y : ℕ) (ys : List ℕ) → all_of (λ s. not (equal_lists (at y) s)) (map at ys) ≡ not (member y ys)
   unfolding all_of member
@@ -409,7 +409,7 @@ module _ (limits : Limits) (b d t z i : ℕ) where
   lists-row y r (x ∷ ys) e h =
       let p = (and-eq-true_iff (eqb (row_number (row_of_year (year_setting_at x))) (row_number r)) _).0 h in
       let q : row_of_year (year_setting_at y) ≡ row_of_year (year_setting_at x) = e ∙ sym (one_number _ _ (eqb-true _ _ p.0)) in
-      rw (same_row y x q, lists-row y r ys e p.1)
+      rw (same_row_lem y x q, lists-row y r ys e p.1)
 
   -- .. are usable where the limits have their place, ..
   lists-usable : (k : Bool) → placed_at limits b ≡ k → (ys : List ℕ) → 0 < length ys → all_of (usable limits) (map at ys) ≡ k

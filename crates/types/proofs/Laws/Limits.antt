@@ -106,10 +106,10 @@ limited_why limits AnyType.ListedDuration = duration_why limits AnyType.ListedDu
 same_limits : (limits : Limits) (w : Window) (h : Bool) → limits.window ≡ w → limits.hour24 ≡ h → record { window = w; hour24 = h } ≡ limits
 same_limits limits w h e f = λ i. record { window = sym e i; hour24 = sym f i }
 
-limits_of : (limits : Limits) (p q : Parts) → Carried limits p q → Points.limits_of q ≡ limits
-limits_of limits p q (date d h) = same_limits limits limits.window true refl h
-limits_of limits p q (time t w) = same_limits limits Window.Every limits.hour24 w refl
-limits_of limits p q (date_time d t) = same_limits limits limits.window limits.hour24 refl refl
+limits_of_lem : (limits : Limits) (p q : Parts) → Carried limits p q → Points.limits_of q ≡ limits
+limits_of_lem limits p q (date d h) = same_limits limits limits.window true refl h
+limits_of_lem limits p q (time t w) = same_limits limits Window.Every limits.hour24 w refl
+limits_of_lem limits p q (date_time d t) = same_limits limits limits.window limits.hour24 refl refl
 
 abbrev type_in : AnyType → TypeRead → AnyType
 type_in u (TypeRead.«Type» t) = t
@@ -121,7 +121,7 @@ pub limits_carried : (limits : Limits) (u t : AnyType) → limited_to limits u �
 limits_carried limits u t = go (limited_to limits u) (limited_why limits u)
   where
     go : (r : TypeRead) → WhyLimited limits u r → r ≡ TypeRead.«Type» t → limits_of t ≡ limits
-    go r (carried x v p q f n i j k) e = ap (λ (x : TypeRead). limits_of (type_in u x)) (sym e) ∙ ap Points.limits_of j ∙ limits_of limits p q k
+    go r (carried x v p q f n i j k) e = ap (λ (x : TypeRead). limits_of (type_in u x)) (sym e) ∙ ap Points.limits_of j ∙ limits_of_lem limits p q k
     go r (unlimited d w h) e =
         ap (λ (x : TypeRead). limits_of (type_in u x)) (sym e) ∙ duration_unlimited u d ∙ same_limits limits Window.Every true w h
     go r (no-date lowest highest w d) e = absurd (let z : ◌≡◌ {A = ℕ} 0 1 = cc in omega arith)

@@ -72,8 +72,8 @@ module _ (s : List ℕ) (o : ℕ) (is : o ≡ get_or s 0 0) (some_octet : 0 < le
         go nothing g h = by_tail nothing g
 
     module _ {x : Tail} (f : of_found (run (read_tail (o % 2)) t) ≡ some x) where
-      with_tail : duration_in_octets s ≡ of_found (run (require (well_made ps) (give (duration_of (ended_by x ps)))) t)
-      with_tail = go (run (read_tail (o % 2)) t) refl f
+      with_tail_lem : duration_in_octets s ≡ of_found (run (require (well_made ps) (give (duration_of (ended_by x ps)))) t)
+      with_tail_lem = go (run (read_tail (o % 2)) t) refl f
         where
           go : (m : Found Bool Tail) → run (read_tail (o % 2)) t ≡ m → of_found m ≡ some x
               → duration_in_octets s ≡ of_found (run (require (well_made ps) (give (duration_of (ended_by x ps)))) t)
@@ -86,10 +86,10 @@ module _ (s : List ℕ) (o : ℕ) (is : o ≡ get_or s 0 0) (some_octet : 0 < le
           go nothing g h = absurd (let z : ◌≡◌ {A = ℕ} 0 1 = cc in omega arith)
 
       pub duration_unmade : well_made ps ≡ false → duration_in_octets s ≡ none
-      duration_unmade w = with_tail ∙ ap of_found (not_required (well_made ps) (duration_of (ended_by x ps)) t w)
+      duration_unmade w = with_tail_lem ∙ ap of_found (not_required (well_made ps) (duration_of (ended_by x ps)) t w)
 
       pub duration-made : well_made ps ≡ true → duration_in_octets s ≡ some (duration_of (ended_by x ps))
-      duration-made w = with_tail ∙ ap of_found (required (well_made ps) (duration_of (ended_by x ps)) t w)
+      duration-made w = with_tail_lem ∙ ap of_found (required (well_made ps) (duration_of (ended_by x ps)) t w)
 
 -- ---- the duration of components
 

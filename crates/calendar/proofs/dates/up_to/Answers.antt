@@ -2,7 +2,6 @@ use borrow.Author.Tests.{le-leb, lt-leb}
 use Rattle.calendar.specs.Dates.{up_to}
 use Rattle.calendar.proofs.dates.up_to.Goals as goal
 
--- `dates::up_to` meets its contract.
 pub returns-then-x-ge1 : goal.returns-then-x-ge1
 unfolding up_to
 returns-then-x-ge1 c = simp (le-leb _ _ c.if-x-ge1.true)

@@ -5,7 +5,6 @@ use Rattle.calendar.specs.Years.{leap_of}
 use Rattle.calendar.proofs.exported.anafzir_leap_year.Goals as goal
 use Rattle.calendar.proofs.exported.anafzir_leap_year.Goals.{After-leap_year}
 
--- `exported::anafzir_leap_year` meets its contract.
 -- what was found is the leap rule of the year itself
 found : (c : After-leap_year) → c.leap_year.result ≡ leap_of c.args.year
 found c = c.leap_year.ensures ∙ ap leap_of (c.of.ensures ∙ to_z-of_z w32 _ c.ranges.year)

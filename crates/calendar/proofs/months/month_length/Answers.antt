@@ -6,7 +6,6 @@ use Rattle.calendar.proofs.Laws.Months.{month_at, no_month_0, no_month_above}
 use Rattle.calendar.proofs.months.month_length.Goals as goal
 use Rattle.calendar.proofs.months.month_length.Goals.{then-leap_year, else-leap_year}
 
--- `months::month_length` meets its contract.
 pub returns-then-month-eq0 : goal.returns-then-month-eq0
 returns-then-month-eq0 c = sym (no_month_0 _ _ c.if-month-eq0.true)
 

@@ -6,7 +6,6 @@ use Rattle.calendar.proofs.Laws.Days.{leap_number}
 use Rattle.calendar.proofs.Laws.Numbers.{leap-number}
 use Rattle.calendar.proofs.years.leap_year.Goals as goal
 
--- `years::leap_year` meets its contract.
 pub returns-then-number-ne0 : goal.returns-then-number-ne0
 unfolding leap_number
 returns-then-number-ne0 c =

@@ -14,7 +14,7 @@ all-digits-requires c κs = search rules
 
 returns-2 : tie.Need-returns-2
 unfolding digits_only
-returns-2 c = rw (eq-eqb _ _ c.before.if1.false) c.all_digits.ensures
+returns-2 c = rw (eq-eqb _ _ c.before.if1.false) c.all_digits_lem.ensures
 
 pub digits-only-spec : {M : Type 1} → statement M
 digits-only-spec = tie.close (tie.spec returns all-digits-requires returns-2)

@@ -4,7 +4,7 @@ use native.Mathlib.Omega.{arith}
 use lib.ListN.{length, length-append}
 use Rattle.fields.specs.Bits.{bits_of, unpacked}
 use Rattle.packing.proofs.Laws.Writing.{length_group}
-use Rattle.packing.proofs.Laws.Waiting.{added_twice, closed_added, none_written}
+use Rattle.packing.proofs.Laws.Waiting.{added_twice, closed_added, none_written_lem}
 use Rattle.packing.proofs.Laws.Durations.{duration-bits, packed-duration, packed-fields}
 use borrow.Author.Rules.{rules}
 use Rattle.packing.proofs.duration.pack_duration.Statement.{statement}
@@ -37,9 +37,9 @@ returns c =
     let a = c.before.before.before.before.before in
     let d = c.before.before.before.before.before.before.before.before.before.before.before.args.duration in
     let e = added_twice c.before.before.before.before.before.before.before.before.append-numbers.ensures.0 a.append-fraction.ensures.0 in
-    let n = sym c.before.before.none_written.ensures ∙ c.before.if1.true in
+    let n = sym c.before.before.none_written_lem.ensures ∙ c.before.if1.true in
     let all = duration-bits d c.before.before.before.before.before.before.before.before.before.before.presences.ensures.0 in
-    c.short.ensures ∙ packed-fields d (sym (none_written a.append-fraction.new.0 a.append-fraction.result n) ∙ e.bits ∙ all)
+    c.short.ensures ∙ packed-fields d (sym (none_written_lem a.append-fraction.new.0 a.append-fraction.result n) ∙ e.bits ∙ all)
 
 slice-aggregate-close : tie.Need-slice-aggregate-close
 slice-aggregate-close c = search rules

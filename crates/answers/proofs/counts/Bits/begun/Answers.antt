@@ -2,7 +2,6 @@ use mathlib.Core.Path.{refl}
 use Rattle.answers.specs.Counts.{begun_by}
 use Rattle.answers.proofs.counts.Bits.begun.Goals as goal
 
--- `counts::Bits::begun` meets its contract.
 pub returns : goal.returns
 unfolding begun_by
 returns c = refl

@@ -13,7 +13,6 @@ use Rattle.calendar.proofs.Laws.Years.{zero_year, in32-within, in32_outside, siz
 use Rattle.calendar.proofs.years.Year.astronomical.Goals as goal
 use Rattle.calendar.proofs.years.Year.astronomical.Goals.{Else-number-gt-HIGHEST}
 
--- `years::Year::astronomical` meets its contract.
 pub returns-then-number-lt-LOWEST : goal.returns-then-number-lt-LOWEST
 returns-then-number-lt-LOWEST c = sym (in32_outside _ (size_below c.args.self (omega arith)))
 

@@ -2,6 +2,5 @@ use mathlib.Core.Path.{sym}
 use Rattle.calendar.proofs.Laws.Years.{order}
 use Rattle.calendar.proofs.years.Year.at_most.Goals as goal
 
--- `years::Year::at_most` meets its contract.
 pub returns : goal.returns
 returns c = sym (order _ _)

@@ -12,7 +12,6 @@ use Rattle.calendar.proofs.Laws.Years.{Shifted, shifted}
 use Rattle.calendar.proofs.years.Year.of.Goals as goal
 use Rattle.calendar.proofs.years.Year.of.Goals.{Start}
 
--- `years::Year::of` meets its contract.
 -- the year, and what the machine makes of it when it adds k
 module _ (c : Start) where
   abbrev y : ℤ

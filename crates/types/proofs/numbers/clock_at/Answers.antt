@@ -1,0 +1,15 @@
+use borrow.Author.Tests.{ne_eqb}
+use Rattle.types.specs.Numbers.{clock_at}
+use Rattle.types.proofs.numbers.clock_at.Goals as goal
+
+pub returns-in-1 : goal.returns-in-1
+unfolding clock_at
+returns-in-1 c = rw c.in-1.is
+
+pub returns-in-2 : goal.returns-in-2
+unfolding clock_at
+returns-in-2 c = rw c.in-2.is
+
+pub returns-in_default : goal.returns-in_default
+unfolding clock_at
+returns-in_default c = rw (ne_eqb _ _ c.in_default.in_default-own.rest.0.1, ne_eqb _ _ c.in_default.in_default-own.rest.1)
