@@ -1,0 +1,26 @@
+use mathlib.Core.Path.{refl}
+use mathlib.Core.Logic.{⊎_elim}
+use Rattle.fields.specs.Fields.{layout}
+use Rattle.texts.specs.declared.values.Time.{Time}
+use Rattle.rows.specs.Fields.{clock_fields}
+use Rattle.packing.specs.Parts.{clock_of}
+use Rattle.packing.proofs.Laws.Parts.{taken}
+use borrow.Author.Rules.{rules}
+use Rattle.packing.proofs.times.clock_part.Goals as goal
+
+pub returns-in-Date : goal.returns-in-Date
+unfolding clock_of layout
+returns-in-Date c = record {
+      result_value = rw c.in-Date.is c.nothing.ensures.result_value;
+      fits = search rules;
+    }
+
+pub returns : goal.returns
+unfolding clock_of
+returns c = let e = c.clock_group.ensures.result_value in record {
+      result_value = ⊎_elim
+          (λ w. taken (λ (t : Time). clock_fields t.clock) clock_of e w.3 w.1.given.1 refl)
+          (λ w. taken (λ (t : Time). clock_fields t.clock) clock_of e w.3 w.1.given.1 refl)
+          c.match-value.branch;
+      fits = search rules;
+    }

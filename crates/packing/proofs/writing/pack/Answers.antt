@@ -1,0 +1,14 @@
+use mathlib.Core.Path.{◌∙◌}
+use Rattle.packing.proofs.Laws.Packed.{packed-fields}
+use Rattle.packing.proofs.Laws.Parts.{layout_parts}
+use Rattle.packing.proofs.writing.pack.Goals as goal
+
+pub returns-then-date-clock-le56 : goal.returns-then-date-clock-le56
+returns-then-date-clock-le56 c =
+    let e = layout_parts _ _ c.date_part-date.ensures.result_value c.clock_part-clock.ensures.result_value c.after_part-after.ensures.result_value in
+    c.short.ensures ∙ packed-fields _ _ (c.join-then-date-clock-le56.ensures.result_value ∙ rw c.join.ensures.result_value e)
+
+pub returns : goal.returns
+returns c =
+    let e = layout_parts _ _ c.date_part-date.ensures.result_value c.clock_part-clock.ensures.result_value c.after_part-after.ensures.result_value in
+    c.write.ensures ∙ packed-fields _ _ e
