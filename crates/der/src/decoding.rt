@@ -2,7 +2,7 @@ ghost use Rattle.std.specs.Prelude.{◌≡◌, true};
 ghost use Rattle.answers.specs.Outcomes.{outcome_of, room_of};
 ghost use Rattle.kinds.specs.Coding.{compared};
 ghost use Rattle.held_values.specs.Existence.{exists_value};
-ghost use Rattle.der_elements.specs.Der.{der as derKind, der_decoded};
+ghost use Rattle.der_elements.specs.Der.{der as der_kind, der_decoded};
 
 use crate::elements::write_element;
 use crate::readings::read_element;
@@ -16,8 +16,8 @@ use values::{Judgement, judge};
 // Puts the text of a value at the front of the room, where the octets that it was read from are its own.
 fn compare(t: Type, octets: &[u8], value: Value, room: &mut [u8]) -> Outcome
     requires { exists_value value ≡ true }
-    ensures value { result ≡ outcome_of (compared derKind t octets.now value) room.old }
-    ensures room_after { room.new ≡ room_of (compared derKind t octets.now value) room.old }
+    ensures value { result ≡ outcome_of (compared der_kind t octets.now value) room.old }
+    ensures room_after { room.new ≡ room_of (compared der_kind t octets.now value) room.old }
 {
     let name = t.name();
     let mut text = [0u8; TEXT_CAPACITY];

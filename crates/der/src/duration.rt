@@ -5,7 +5,7 @@ ghost use Rattle.std.proofs.Math.Option.{some};
 ghost use Rattle.answers.specs.Outcomes.{done, outcome_of, room_of};
 ghost use Rattle.durations.specs.Answers.{duration_in};
 ghost use Rattle.durations.specs.Durations.{exists_duration};
-ghost use Rattle.durations.specs.Texts.{duration_text, letter_p, read_duration as durationRead};
+ghost use Rattle.durations.specs.Texts.{duration_text, letter_p, read_duration as duration_read};
 ghost use Rattle.der_elements.specs.AnyDer.{decoded_duration, encoded_duration};
 ghost use Rattle.der_elements.specs.Der.{no_bits};
 ghost use Rattle.der_elements.specs.Elements.{contents_of, element};
@@ -34,8 +34,8 @@ fn write_duration(name: Name, duration: Duration, room: &mut [u8]) -> Outcome
 
 // Puts the element of a text's duration under a name at the front of the room, or refuses.
 pub fn encode_duration(name: Name, text: &[u8], room: &mut [u8]) -> Outcome
-    ensures value { result ≡ outcome_of (encoded_duration name (durationRead text.now)) room.old }
-    ensures room_after { room.new ≡ room_of (encoded_duration name (durationRead text.now)) room.old }
+    ensures value { result ≡ outcome_of (encoded_duration name (duration_read text.now)) room.old }
+    ensures room_after { room.new ≡ room_of (encoded_duration name (duration_read text.now)) room.old }
 {
     let DurationRead::Duration(duration) = read_duration(&*text) else {
         return Outcome::refused(Refusal::Form);
@@ -46,7 +46,7 @@ pub fn encode_duration(name: Name, text: &[u8], room: &mut [u8]) -> Outcome
 // Reads a duration's text from what follows its `P`.
 fn read_after_p(contents: &[u8]) -> DurationRead
     requires { length contents.now ≤ 127 }
-    ensures { result ≡ duration_in (durationRead (letter_p ∷ contents.now)) }
+    ensures { result ≡ duration_in (duration_read (letter_p ∷ contents.now)) }
 {
     let mut text = [0u8; 128];
     text[0] = b'P';

@@ -4,7 +4,7 @@ ghost use Rattle.answers.specs.Outcomes.{done, outcome_of, room_of};
 ghost use Rattle.types.specs.declared.types.Name.{Name};
 ghost use Rattle.held_values.specs.Existence.{exists_value};
 ghost use Rattle.der_elements.specs.Der.{no_bits, der_encoded};
-ghost use Rattle.der_elements.specs.Elements.{tag_of, omits as omitsIn, contents_of, element, element_of};
+ghost use Rattle.der_elements.specs.Elements.{tag_of, omits as omits_in, contents_of, element, element_of};
 
 use crate::tags::{tag_length, tag_of};
 use answers::{Bits, Octets, Outcome, Refusal};
@@ -15,7 +15,7 @@ use values::{Admission, admit};
 
 // Whether an octet of a date-time's text is a separator.
 fn separates(octet: u8) -> bool
-    ensures { result ≡ omitsIn Name.DateTime octet }
+    ensures { result ≡ omits_in Name.DateTime octet }
 {
     if octet == b'-' {
         return true;
@@ -28,7 +28,7 @@ fn separates(octet: u8) -> bool
 
 // Whether the contents are without such an octet of the text.
 fn omits(name: Name, octet: u8) -> bool
-    ensures { result ≡ omitsIn name octet }
+    ensures { result ≡ omits_in name octet }
 {
     match name {
         Name::Listed => false,

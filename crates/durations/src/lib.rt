@@ -2,7 +2,6 @@
 // `printing`, `packing` and `unpacking` have the functions.
 #![tactic(auto)]
 
-
 // A duration to the accuracy of its least significant component (X.680 34 bis.3.6.14). `last` is that component's place
 // among years, months, weeks, days, hours, minutes and seconds, from 0; a component that is not written is 0. The last one
 // has so many fraction digits, and the number that they give; no digits, no fraction.

@@ -57,7 +57,7 @@ use Rattle.der_elements.proofs.Laws.AnyDer as InDer
 use Rattle.der_elements.proofs.Laws.AnyDer.{der_lawful, element_gives}
 use Rattle.der_elements.proofs.Laws.Der.{one_tag}
 use Rattle.exchanges.specs.Coding.{answer_of, answer_under, der_decode, der_encode, per_decode, per_encode, under_type}
-use Rattle.exchanges.specs.Limits.{limits_given, limits_number, under_limits, window_given}
+use Rattle.exchanges.specs.Limits.{limits_given, window_given}
 use Rattle.exchanges.specs.Demands.{answer_in_c, encodes, decodes, BitsTold, Demand1, Demand1InC, Demand2InDer, Demand2InPer, Demand3InDer, Demand3InPer}
 use Rattle.exchanges.specs.Demands.{CanonicalTwice, DurationsTold, LimitsFromC, LimitsTold, PointsAsBefore, SevenNumbers, TextsTold, TypesTold}
 use Rattle.exchanges.specs.Demands.{ValuesTold}

@@ -1,5 +1,5 @@
 -- Several lists of one type, as the code keeps them.
-use Rattle.std.specs.Prelude.{ℕ, ◌+◌, ◌≤◌, ◌≡◌, cond, List, [], leb, length, replicate, set, take}
+use Rattle.std.specs.Prelude.{◌+◌, ◌≤◌, ◌≡◌, cond, List, [], leb, length, replicate, set, take}
 use Rattle.lists.specs.Lists.{most_lists, refused_list}
 use Rattle.lists.specs.declared.lists.Settings.{Settings}
 use Rattle.lists.specs.declared.several.Lists.{Lists}

@@ -2,7 +2,7 @@
 ghost use Rattle.std.specs.Prelude.{◌≡◌, ◌+◌, ◌*◌, ◌≤◌, ◌<◌, length};
 ghost use Rattle.fields.specs.Fields.{layout, field_bits, width as width_of};
 ghost use Rattle.durations.specs.Durations.{numbers_of, parts_of};
-ghost use Rattle.durations.specs.Fields.{extended as extendedFields, roots, presence as presenceField, number_fields, fraction_part};
+ghost use Rattle.durations.specs.Fields.{extended as extended_fields, roots, presence as presence_field, number_fields, fraction_part};
 ghost use Rattle.packing.specs.Groups.{group_bits, Fits};
 ghost use Rattle.packing.specs.Writing.{Ready};
 ghost use Rattle.packing.specs.Waiting.{Added, waiting_count};
@@ -69,7 +69,7 @@ fn is_there(place: u32, last: u32, number: u32) -> bool
 
 // Makes the group of a presence bit.
 fn presence(there: bool) -> Group
-    ensures result_value { group_bits result ≡ field_bits (presenceField there) }
+    ensures result_value { group_bits result ≡ field_bits (presence_field there) }
     ensures fits { Fits 1 result }
 {
     if there {
@@ -101,7 +101,7 @@ fn presences(duration: Duration) -> Group
 fn extended(lowest: u32, width: Bits, range: u32, number: u32) -> Group
     requires count_bound { width.count ≤ 10 }
     requires count_value { width.count ≡ width_of range }
-    ensures result_value { group_bits result ≡ layout (extendedFields lowest range number) }
+    ensures result_value { group_bits result ≡ layout (extended_fields lowest range number) }
     ensures fits { Fits 41 result }
 {
     if number < lowest {

@@ -3,7 +3,7 @@ ghost use Rattle.answers.specs.Outcomes.{done, outcome_of, room_of};
 ghost use Rattle.kinds.specs.Coding.{compared};
 ghost use Rattle.rows.specs.Fields.{year_row_of, year_row_of_parts};
 ghost use Rattle.held_values.specs.Existence.{exists_value};
-ghost use Rattle.per.specs.Per.{per as perKind, encoding_of, count_of, per_encoded, per_decoded};
+ghost use Rattle.per.specs.Per.{per as per_kind, encoding_of, count_of, per_encoded, per_decoded};
 
 use answers::{Outcome, Refusal, deliver};
 use octets::same;
@@ -69,8 +69,8 @@ pub fn encode(t: Type, text: &[u8], room: &mut [u8]) -> Outcome
 // Puts the text of a value at the front of the room, where the octets that it was read from are its own.
 fn compare(t: Type, octets: &[u8], value: Value, room: &mut [u8]) -> Outcome
     requires { exists_value value ≡ true }
-    ensures value { result ≡ outcome_of (compared perKind t octets.now value) room.old }
-    ensures room_after { room.new ≡ room_of (compared perKind t octets.now value) room.old }
+    ensures value { result ≡ outcome_of (compared per_kind t octets.now value) room.old }
+    ensures room_after { room.new ≡ room_of (compared per_kind t octets.now value) room.old }
 {
     let packed = pack(row_of(t), value);
     let own = packed.octets;

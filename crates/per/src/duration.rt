@@ -8,7 +8,7 @@ ghost use Rattle.types.specs.declared.types.AnyType.{AnyType};
 ghost use Rattle.durations.specs.Durations.{exists_duration};
 ghost use Rattle.durations.specs.Texts.{duration_text};
 ghost use Rattle.any_values.specs.declared.AnyValue.{AnyValue};
-ghost use Rattle.per.specs.AnyPer.{per as perKind, count_of, encoding_of, per_decoded, per_encoded};
+ghost use Rattle.per.specs.AnyPer.{per as per_kind, count_of, encoding_of, per_decoded, per_encoded};
 
 use answers::{Bits, Outcome, Refusal, deliver};
 use durations::{Duration, DurationRead};
@@ -57,8 +57,8 @@ fn deliver_duration(duration: Duration, bits: Bits, room: &mut [u8]) -> Outcome
 // Puts the text of a duration at the front of the room, where the octets that it was read from are its own.
 fn compare_duration(octets: &[u8], duration: Duration, room: &mut [u8]) -> Outcome
     requires { exists_duration duration ≡ true }
-    ensures value { result ≡ outcome_of (compared perKind AnyType.Duration octets.now (AnyValue.Duration duration)) room.old }
-    ensures room_after { room.new ≡ room_of (compared perKind AnyType.Duration octets.now (AnyValue.Duration duration)) room.old }
+    ensures value { result ≡ outcome_of (compared per_kind AnyType.Duration octets.now (AnyValue.Duration duration)) room.old }
+    ensures room_after { room.new ≡ room_of (compared per_kind AnyType.Duration octets.now (AnyValue.Duration duration)) room.old }
 {
     let packed = pack_duration(duration);
     let own = packed.octets;

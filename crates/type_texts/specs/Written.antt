@@ -1,5 +1,5 @@
 -- How a type is written as settings: a list for each Year that it names. Restrictions have no notation.
-use Rattle.std.specs.Prelude.{ℕ, ◌+◌, Bool, true, false, cond, eqb}
+use Rattle.std.specs.Prelude.{ℕ, ◌+◌, Bool, cond, eqb}
 use mathlib.Core.List.{List, [], ◌∷◌, ◌++◌, map, Permᴰ}
 use Rattle.octets.specs.Octets.{bytes}
 use Rattle.texts.specs.declared.forms.DateForm.{DateForm}

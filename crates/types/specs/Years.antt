@@ -1,5 +1,5 @@
 -- Year settings: each with its word, its number, its row of Table 2 and its years, said once for all crates.
-use Rattle.std.specs.Prelude.{ℕ, ◌-◌, ◌^◌, Bool, true, false, ◌&&◌, ◌||◌, cond, List, [], ◌∷◌, eqb, leb, ltb, ℤ, pos, negsuc, nat_abs}
+use Rattle.std.specs.Prelude.{ℕ, ◌-◌, ◌^◌, Bool, false, ◌&&◌, ◌||◌, cond, List, [], ◌∷◌, eqb, leb, ltb, ℤ, pos, negsuc, nat_abs}
 use Prim.Native.String.{String}
 use Rattle.std.specs.Int.Signed.{le_z}
 use Rattle.types.specs.declared.years.YearRow.{YearRow}

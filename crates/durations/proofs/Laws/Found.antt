@@ -14,11 +14,10 @@ use Rattle.fields.specs.Fields.{Field, Ranged, Free}
 use Rattle.octets.specs.Found.{found}
 use Rattle.fields.specs.Readings.{give, ◌>>=◌, a_ranged, a_free, require, over, natural}
 use Rattle.fields.proofs.Laws.Paths.{Paths, paths_over, paths_then, paths_weaken, paths_require, paths_give}
-use Rattle.texts.specs.Times.{fraction}
 use Rattle.durations.specs.declared.Duration.{Duration}
 use Rattle.durations.specs.Parts.{Part, absent, any_present, bares, count, digits_in, is_present, no_fraction, numbers, part_at, present, well_made}
 use Rattle.durations.specs.Durations.{all_small, duration_of, exists_duration}
-use Rattle.durations.specs.Fields.{long_number, extended, roots, presence, presences}
+use Rattle.durations.specs.Fields.{long_number, extended, roots, presences}
 use Rattle.durations.specs.Readings.{read_after, read_extended, read_presences, read_numbers, Tail, tail, read_tail, with_tail, ended_by, read_fields}
 use Rattle.durations.specs.Loose.{LooseDuration, Numbered, loose_number, loose_numbers, loose_tail, parted, whole}
 use Rattle.durations.proofs.Laws.Parts.{or-true}

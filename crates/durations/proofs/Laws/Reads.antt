@@ -12,7 +12,7 @@ use Rattle.octets.proofs.Laws.Cases.{both, by_test}
 use Rattle.texts.specs.Octets.{first_octet}
 use Rattle.octets.specs.Found.{Found, found, nothing}
 use Rattle.texts.specs.Digits.{put_digits, leading}
-use Rattle.texts.specs.Times.{fraction, put_fraction, get_fraction}
+use Rattle.texts.specs.Times.{put_fraction, get_fraction}
 use Rattle.texts.specs.Years.{size_in}
 use Rattle.texts.specs.declared.parts.Fraction.{Fraction}
 use Rattle.octets.proofs.Laws.Found.{onward-found, cond-found}

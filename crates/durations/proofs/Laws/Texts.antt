@@ -2,14 +2,14 @@
 use mathlib.Core.Path.{◌≡◌, refl, ap, ◌∙◌}
 use mathlib.Core.Bool.{Bool, true, false, ◌&&◌, ◌||◌, not, cond}
 use mathlib.Core.List.{List, [], ◌∷◌, ◌++◌, append_assoc, append-nil}
-use Prim.Native.Nat.{ℕ, zero, suc, ◌+◌}
+use Prim.Native.Nat.{ℕ, zero, suc}
 use native.Mathlib.Omega.{arith}
 use lib.Dec.{eqb, leb}
 use lib.ListN.{length}
 use borrow.Author.Tests.{eq-eqb, ne_eqb, le-leb, leb-true, ltb-true}
 use Rattle.octets.proofs.Laws.Cases.{both}
 use Rattle.texts.specs.Octets.{is_digit, first_octet, comma, stop, letter_t}
-use Rattle.octets.specs.Found.{found, nothing}
+use Rattle.octets.specs.Found.{found}
 use Rattle.texts.specs.Times.{fraction, put_fraction, get_fraction}
 use Rattle.texts.proofs.Laws.Digits.{leading_put, leading_none}
 use Rattle.texts.proofs.Laws.Times.{fraction_there}

@@ -2,7 +2,7 @@
 use mathlib.Core.Path.{◌≡◌, refl, ap, sym, ◌∙◌, subst}
 use mathlib.Core.Bool.{Bool, true, false, ◌||◌, not, cond}
 use mathlib.Core.List.{List, [], ◌∷◌, ◌++◌, append-nil}
-use Prim.Native.Nat.{ℕ, suc, ◌+◌}
+use Prim.Native.Nat.{ℕ, suc}
 use native.Mathlib.Omega.{arith}
 use lib.Dec.{eqb}
 use lib.ListN.{drop, take, length, length-append}
@@ -12,7 +12,7 @@ use Rattle.octets.proofs.Laws.Cases.{both, by_test}
 use Rattle.texts.specs.Octets.{first_octet, letter_t}
 use Rattle.octets.specs.Found.{found, nothing, onward}
 use Rattle.octets.proofs.Laws.Found.{onward-found, cond-found}
-use Rattle.durations.specs.Parts.{Part, absent, is_present, digits_in, count, any_present}
+use Rattle.durations.specs.Parts.{Part, absent, is_present, digits_in, any_present}
 use Rattle.durations.specs.Texts.{letter_p, date_letters, time_letters, put_parts, put_times, put_duration, put_all, get_parts, get_times, get_duration}
 use Rattle.durations.proofs.Laws.Made.{AllFit, tidy}
 use Rattle.durations.proofs.Laws.Reads.{PartsFrom, bare, parts_from_lem, empty, date_pos, time_pos}

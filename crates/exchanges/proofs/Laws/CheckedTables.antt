@@ -1,12 +1,10 @@
 -- The entry points' definitions, computed, and three forms of table over them: values in both encodings and back, texts that are refused, and the
 -- number of each cause that octets meet.
-use mathlib.Core.Path.{◌≡◌, refl}
-use mathlib.Core.Bool.{◌&&◌, Bool, true, false, cond}
+use mathlib.Core.Bool.{◌&&◌, Bool, true, false}
 use mathlib.Core.List.{◌∷◌, List, []}
-use Prim.Native.Nat.{ℕ, ◌+◌, ◌-◌}
+use Prim.Native.Nat.{ℕ}
 use Prim.Native.String.{String}
 use lib.Dec.{eqb}
-use lib.IntN.{pos}
 use lib.ListN.{replicate}
 use Rattle.octets.specs.Octets.{bytes, eq_list}
 use Rattle.octets.specs.Pieces.{split_on}
@@ -25,7 +23,6 @@ use Rattle.types.specs.Numbers.{clock_at, date_at, zone_at}
 use Rattle.types.specs.AnyTypes.{limited_to}
 use Rattle.types.specs.Types.{no_limits, placed}
 use Rattle.types.specs.declared.types.Limits.{Limits}
-use Rattle.types.specs.declared.types.Window.{Window}
 use Rattle.type_texts.specs.TypeTexts.{all_of, distinct, equal_lists, joined, list_type, point_type, lists_of, member, one_row, same_but_year, time_at, type_of, usable}
 use Rattle.type_texts.specs.TypeTexts.{years_of}
 use Rattle.texts.specs.Dates.{get_after, get_date, get_week, put_after, put_date}

@@ -12,7 +12,7 @@ use Rattle.octets.specs.Octets.{bytes, eq_list}
 use Rattle.octets.specs.Pieces.{split_on, with_first}
 use Rattle.octets.proofs.Laws.Octets.{equal}
 use Rattle.answers.proofs.Laws.Outcomes.{by_number}
-use Rattle.lists.specs.Lists.{basic_in, dated_list, date_in, year_in, time_in, zone_in, interval_in, list_of}
+use Rattle.lists.specs.Lists.{dated_list, year_in, list_of}
 use Rattle.lists.specs.declared.lists.Settings.{Settings}
 use Rattle.texts.specs.declared.forms.DateForm.{DateForm}
 use Rattle.texts.specs.declared.forms.TimeForm.{TimeForm}

@@ -3,7 +3,7 @@ use mathlib.Core.Path.{◌≡◌, refl, ap, sym, ◌∙◌, subst}
 use mathlib.Core.Logic.{◌⊎◌, inl, inr}
 use mathlib.Core.List.{List, [], ◌∷◌, ◌++◌, map}
 use mathlib.Core.Bool.{Bool, true, false, ◌&&◌, not, cond, and-eq-true_iff, false≢true}
-use Prim.Native.Nat.{ℕ, suc, ◌≤◌}
+use Prim.Native.Nat.{ℕ, ◌≤◌}
 use native.Mathlib.Omega.{arith}
 use lib.Dec.{leb}
 use lib.ListN.{length, length-map}
@@ -22,7 +22,7 @@ use Rattle.type_texts.specs.TypeTexts.{all_of, distinct, equal_lists, joined, li
 use Rattle.type_texts.specs.Written.{join_with}
 use Rattle.type_texts.proofs.Laws.Converse.{split_lacks, usable_read}
 use Rattle.type_texts.proofs.Laws.Joining.{lacks}
-use Rattle.type_texts.proofs.Laws.ListOrder.{Alike, alike, barred, row_same, row_sym}
+use Rattle.type_texts.proofs.Laws.ListOrder.{alike, barred, row_same, row_sym}
 use Rattle.type_texts.proofs.Laws.SameSettings.{OnlyYears, equal_are_same, only_years_row, row_only_years, same_are_equal}
 use Rattle.type_texts.proofs.Laws.Words.{join_split}
 

@@ -1,7 +1,7 @@
 -- Nothing ill-formed is ever read.
 use mathlib.Core.Path.{◌≡◌, refl, sym, ◌∙◌, subst}
 use mathlib.Core.List.{List, [], ◌∷◌, map}
-use mathlib.Core.Bool.{Bool, true, false, ◌&&◌, ◌||◌, not, cond, and-eq-true_iff, or-true, false≢true}
+use mathlib.Core.Bool.{Bool, true, false, ◌&&◌, not, cond, and-eq-true_iff, false≢true}
 use Prim.Native.Nat.{ℕ, zero, suc, ◌+◌, ◌-◌, ◌*◌, ◌/◌, ◌<◌, ◌≤◌}
 use native.Mathlib.Omega.{arith}
 use lib.Dec.{eqb, ltb, leb}
@@ -24,7 +24,6 @@ use Rattle.type_texts.specs.TypeTexts.{all_of, distinct, joined, list_type, list
 use Rattle.lists.specs.Lists.{most_lists}
 use Rattle.type_texts.specs.TypeTexts.{usable, years_of}
 use Rattle.types.specs.declared.types.AnyType.{AnyType}
-use Rattle.types.specs.declared.years.Years.{Years}
 use Rattle.types.specs.declared.types.Parts.{Parts}
 use Rattle.types.specs.declared.types.«Type».{«Type»}
 use Rattle.types.specs.declared.types.Limits.{Limits}

@@ -9,7 +9,7 @@ use lib.IntN.{ℤ, pos, negsuc, nat_abs}
 use borrow.Author.Tests.{leb-true, leb-false, ltb-true, le-leb, lt-leb, lt-ltb}
 use Rattle.octets.proofs.Laws.Cases.{both}
 use Rattle.texts.specs.Years.{longest_year}
-use Rattle.types.specs.Years.{any_of, between, in_long, in_setting, in_years, names, year_settings}
+use Rattle.types.specs.Years.{between, in_long, in_setting, in_years, names, year_settings}
 use Rattle.types.specs.declared.years.PlainYears.{PlainYears}
 use Rattle.types.specs.declared.years.SignedYears.{SignedYears}
 use Rattle.types.specs.declared.years.YearSetting.{YearSetting}

@@ -1,17 +1,10 @@
 -- Year settings: told apart by their numbers, of one row where a type names them, and each year of at most one of them.
-use mathlib.Core.Path.{◌≡◌, refl, sym, ap, ◌∙◌}
-use mathlib.Core.Bool.{Bool, true, false, cond, beq, ◌&&◌, ◌||◌, or-true, or-false, false≢true}
+use mathlib.Core.Path.{◌≡◌, refl, ap}
+use mathlib.Core.Bool.{Bool, true, false, ◌||◌, or-true, or-false, false≢true}
 use mathlib.Core.List.{List, [], ◌∷◌}
-use Prim.Native.Nat.{ℕ, suc, ◌-◌, ◌^◌, ◌<◌, ◌≤◌}
-use native.Mathlib.Omega.{arith}
-use lib.Dec.{leb, ltb}
-use lib.IntN.{ℤ, pos, negsuc, nat_abs}
-use borrow.Author.Tests.{leb-true, leb-false, ltb-true, le-leb, lt-leb, lt-ltb}
-use Rattle.octets.proofs.Laws.Cases.{both}
-use Rattle.types.specs.Years.{any_of, between, in_long, in_setting, in_years, names, row_of_year, some_year, year_setting_at, year_number, year_settings, years_row}
+use Rattle.types.specs.Years.{any_of, names, row_of_year, some_year, year_setting_at, year_number, year_settings, years_row}
 use Rattle.types.specs.declared.years.PlainYears.{PlainYears}
 use Rattle.types.specs.declared.years.SignedYears.{SignedYears}
-use Rattle.types.specs.declared.years.YearRow.{YearRow}
 use Rattle.types.specs.declared.years.YearSetting.{YearSetting}
 use Rattle.types.specs.declared.years.Years.{Years}
 

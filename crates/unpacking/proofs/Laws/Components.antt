@@ -1,6 +1,6 @@
 -- The numbers of a duration, place by place.
 use mathlib.Core.Path.{◌≡◌, refl, sym, ap, ◌∙◌}
-use mathlib.Core.Bool.{Bool, true, false, not}
+use mathlib.Core.Bool.{Bool, true, false}
 use mathlib.Core.List.{List, [], ◌∷◌, ◌++◌, append_assoc, append-nil}
 use Prim.Native.Nat.{ℕ, zero, suc, ◌+◌, ◌-◌, ◌/◌, ◌%◌, ◌^◌, ◌<◌}
 use native.Mathlib.Numerals.{add-one}
@@ -10,7 +10,7 @@ use lib.ListN.{length, take, drop, get_or, set}
 use lib.Seq.{drop-cons, take-suc, take-suc-set, take_all, length-take-le}
 use Rattle.octets.specs.Found.{Found, found, nothing, onward}
 use Rattle.octets.proofs.Laws.Found.{found-value}
-use Rattle.fields.specs.Bits.{BitString, bit}
+use Rattle.fields.specs.Bits.{BitString}
 use Rattle.fields.specs.Readings.{give, ◌>>=◌, require, run}
 use Rattle.fields.proofs.Laws.Readings.{run_bind}
 use Rattle.durations.specs.Parts.{Part, present, no_fraction, number_in as number_of, numbers}

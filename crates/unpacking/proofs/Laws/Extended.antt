@@ -1,9 +1,8 @@
 -- The readings of a duration in the words of the code's tests and places.
 use mathlib.Core.Path.{◌≡◌, refl, sym, ap, ◌∙◌}
-use mathlib.Core.Bool.{Bool, true, false, ◌&&◌, not, cond}
+use mathlib.Core.Bool.{Bool, true, false, ◌&&◌, cond}
 use mathlib.Core.List.{[], ◌∷◌, ◌++◌}
-use mathlib.Core.Option.{some}
-use Prim.Native.Nat.{ℕ, zero, suc, ◌+◌, ◌-◌, ◌*◌, ◌^◌, ◌≤◌, ◌<◌}
+use Prim.Native.Nat.{ℕ, zero, suc, ◌+◌, ◌*◌, ◌^◌, ◌≤◌, ◌<◌}
 use native.Mathlib.Numerals.{add-one}
 use native.Mathlib.Omega.{arith}
 use lib.Dec.{leb, ltb}
@@ -18,7 +17,6 @@ use Rattle.fields.specs.Readings.{Reading, give, ◌>>=◌, a_ranged, a_free, a_
 use Rattle.fields.proofs.Laws.Bits.{length-bits, number_lt}
 use Rattle.fields.proofs.Laws.Fields.{read_free_only}
 use Rattle.fields.proofs.Laws.Readings.{run_bind}
-use Rattle.durations.specs.Parts.{count}
 use Rattle.durations.specs.Fields.{roots}
 use Rattle.durations.specs.Readings.{read_after, read_extended, Tail, tail, read_tail}
 use Rattle.unpacking.specs.Durations.{read_place}

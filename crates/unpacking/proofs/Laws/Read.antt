@@ -1,8 +1,6 @@
 -- What was read, by its number.
 use mathlib.Core.Path.{◌≡◌, refl}
-use mathlib.Core.Bool.{Bool}
-use Prim.Native.Nat.{ℕ}
-use Rattle.octets.specs.Found.{Found, found, nothing}
+use Rattle.octets.specs.Found.{found, nothing}
 use Rattle.texts.specs.declared.values.Value.{Value}
 use Rattle.fields.specs.Bits.{BitString}
 use Rattle.unpacking.specs.Unpacked.{value_in, value_number}

@@ -6,12 +6,12 @@ use Rattle.answers.proofs.outcomes.deliver.Goals as goal
 
 pub returns-then-room-count : goal.returns-then-room-count
 returns-then-room-count c = record {
-      value = (left_out _ _ _ (omega arith) c.refused.ensures refl).0;
-      room_after = (left_out _ _ _ (omega arith) c.refused.ensures refl).1;
-    }
+  value = (left_out _ _ _ (omega arith) c.refused.ensures refl).0;
+  room_after = (left_out _ _ _ (omega arith) c.refused.ensures refl).1;
+}
 
 pub returns : goal.returns
 returns c = record {
-      value = (put_in _ _ _ (omega arith) refl (put_front _ _ (omega arith) c.put_octets.ensures.room_after)).0;
-      room_after = (put_in _ _ _ (omega arith) refl (put_front _ _ (omega arith) c.put_octets.ensures.room_after)).1;
-    }
+  value = (put_in _ _ _ (omega arith) refl (put_front _ _ (omega arith) c.put_octets.ensures.room_after)).0;
+  room_after = (put_in _ _ _ (omega arith) refl (put_front _ _ (omega arith) c.put_octets.ensures.room_after)).1;
+}

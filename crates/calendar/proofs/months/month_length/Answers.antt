@@ -1,5 +1,4 @@
 use mathlib.Core.Path.{sym}
-use mathlib.Core.Logic.{⊎_elim}
 use Prim.Native.Nat.{◌≤◌}
 use native.Mathlib.Omega.{arith}
 use Rattle.calendar.proofs.Laws.Months.{month_at, no_month_0, no_month_above}
@@ -24,6 +23,6 @@ returns c =
     let some : 1 ≤ month = omega arith in
     rw (month_at _ month some)
     (elim c.if-leap_year.branch [
-      then-leap_year w ↦ simp (← c.leap_year.ensures, w.if-leap_year.true, w.row-is)
-    | else-leap_year w ↦ simp (← c.leap_year.ensures, w.if-leap_year.false, w.row-is)
+      | then-leap_year w ↦ simp (← c.leap_year.ensures, w.if-leap_year.true, w.row-is)
+      | else-leap_year w ↦ simp (← c.leap_year.ensures, w.if-leap_year.false, w.row-is)
     ])

@@ -32,6 +32,6 @@ returns-in-Duration c = let a = c.args in rw (found_back (type_of a.limits a.set
 pub returns-in-NoType : goal.returns-in-NoType
 unfolding answer_of
 returns-in-NoType c = let a = c.args in rw (found_back (type_of a.limits a.settings.now) c.read_type-read.ensures ∙ ap type_read c.in-NoType.is) (record {
-      value = (refused-under c.in-NoType.rowless (λ t. answer_under a.entry t a.input.now) _ c.refused.ensures c.no_type.ensures).0;
-      room_after = (refused-under c.in-NoType.rowless (λ t. answer_under a.entry t a.input.now) _ c.refused.ensures c.no_type.ensures).1;
-    })
+  value = (refused-under c.in-NoType.rowless (λ t. answer_under a.entry t a.input.now) _ c.refused.ensures c.no_type.ensures).0;
+  room_after = (refused-under c.in-NoType.rowless (λ t. answer_under a.entry t a.input.now) _ c.refused.ensures c.no_type.ensures).1;
+})

@@ -8,6 +8,6 @@ returns-in-Limits c = rw (sym c.limits_given-given.ensures ∙ c.in-Limits.is) (
 pub returns-in-Misplaced : goal.returns-in-Misplaced
 unfolding outcome_of room_of
 returns-in-Misplaced c = rw (sym c.limits_given-given.ensures ∙ c.in-Misplaced.is) (record {
-      value = c.refused.ensures;
-      room_after = refl;
-    })
+  value = c.refused.ensures;
+  room_after = refl;
+})

@@ -3,7 +3,6 @@ use Prim.Native.Nat.{◌≤◌}
 use native.Mathlib.Omega.{arith}
 use lib.ListN.{length, take}
 use lib.Seq.{length-take-le}
-use borrow.Author.Tests.{not-false, not-true}
 use Rattle.answers.specs.Outcomes.{outcome_of, room_of}
 use Rattle.kinds.specs.Coding.{compared}
 use Rattle.printing.specs.Canonical.{text_capacity}
@@ -47,7 +46,7 @@ written : (k : After-write_element-written)
 written k =
     let name = k.name-name in
     let p : take k.text_into-length.result k.text_into-length.new.buffer ≡ text_of k.args.value
-        = text_taken _ _ (omega arith) k.text_into-length.ensures.value k.text_into-length.ensures.buffer_after ∙ printed-text k.args.value k.requires in
+    = text_taken _ _ (omega arith) k.text_into-length.ensures.value k.text_into-length.ensures.buffer_after ∙ printed-text k.args.value k.requires in
     rw (← name.ensures)
     (own_element name.result k.args.value _ _ _ _ k.requires p (omega arith)
     k.write_element-written.ensures.value k.write_element-written.ensures.room_after)
@@ -68,12 +67,12 @@ slice_bounds-same-end c =
 pub returns-then-not-same : goal.returns-then-not-same
 unfolding compared outcome_of room_of
 returns-then-not-same c = rw (
-      ← (written (goal.at.returns-then-not-same c).After-write_element-written).1,
-      sym c.same.ensures ∙ c.if-not-same.true,
-    ) (record {
-      value = c.refused.ensures;
-      room_after = refl;
-    })
+  ← (written (goal.at.returns-then-not-same c).After-write_element-written).1,
+  sym c.same.ensures ∙ c.if-not-same.true,
+) (record {
+  value = c.refused.ensures;
+  room_after = refl;
+})
 
 pub slice_bounds-text-end-2 : goal.slice_bounds-text-end-2
 slice_bounds-text-end-2 c = (short (goal.at.slice_bounds-text-end-2 c).After-text_into-length).1
@@ -84,7 +83,7 @@ slice_bounds-deliver-end c = sym (length-take-le _ _ (short (goal.at.slice_bound
 pub returns : goal.returns
 unfolding compared
 returns c = rw (
-      ← (written (goal.at.returns c).After-write_element-written).1,
-      sym c.same.ensures ∙ c.if-not-same.false,
-      ← printed (goal.at.returns c).After-text_into-length,
-    ) (c.deliver.ensures)
+  ← (written (goal.at.returns c).After-write_element-written).1,
+  sym c.same.ensures ∙ c.if-not-same.false,
+  ← printed (goal.at.returns c).After-text_into-length,
+) (c.deliver.ensures)

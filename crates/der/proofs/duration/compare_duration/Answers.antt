@@ -3,7 +3,6 @@ use Prim.Native.Nat.{◌≤◌}
 use native.Mathlib.Omega.{arith}
 use lib.ListN.{length, take}
 use lib.Seq.{length-take-le}
-use borrow.Author.Tests.{not-false, not-true}
 use Rattle.answers.specs.Outcomes.{outcome_of, room_of}
 use Rattle.printing.specs.Canonical.{text_capacity}
 use Rattle.printing.proofs.Laws.Durations.{duration_taken}
@@ -56,9 +55,9 @@ slice_bounds-same-end c = sym (length-take-le _ _ (written (goal.at.slice_bounds
 pub returns-then-not-same : goal.returns-then-not-same
 unfolding outcome_of room_of
 returns-then-not-same c = rw (← (written (goal.at.returns-then-not-same c).After-write_element-written).0, sym c.same.ensures ∙ c.if-not-same.true) (record {
-      value = c.refused.ensures;
-      room_after = refl;
-    })
+  value = c.refused.ensures;
+  room_after = refl;
+})
 
 pub slice_bounds-text-end-2 : goal.slice_bounds-text-end-2
 slice_bounds-text-end-2 c = (printed (goal.at.slice_bounds-text-end-2 c).After-duration_into-length).2
@@ -68,7 +67,7 @@ slice_bounds-deliver-end c = sym (length-take-le _ _ (printed (goal.at.slice_bou
 
 pub returns : goal.returns
 returns c = rw (
-      ← (written (goal.at.returns c).After-write_element-written).0,
-      sym c.same.ensures ∙ c.if-not-same.false,
-      ← (printed (goal.at.returns c).After-duration_into-length).0,
-    ) (c.deliver.ensures)
+  ← (written (goal.at.returns c).After-write_element-written).0,
+  sym c.same.ensures ∙ c.if-not-same.false,
+  ← (printed (goal.at.returns c).After-duration_into-length).0,
+) (c.deliver.ensures)

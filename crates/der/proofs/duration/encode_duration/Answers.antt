@@ -1,4 +1,4 @@
-use mathlib.Core.Path.{◌∙◌, ap, refl, sym}
+use mathlib.Core.Path.{◌∙◌, ap, refl}
 use Rattle.answers.specs.Outcomes.{outcome_of, room_of}
 use Rattle.durations.specs.Texts.{read_duration}
 use Rattle.durations.proofs.Laws.Answers.{of_read, read_back}

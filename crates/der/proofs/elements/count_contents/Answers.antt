@@ -1,8 +1,6 @@
-use mathlib.Core.Path.{◌≡◌, refl, ap}
-use Prim.Native.Nat.{◌+◌, ◌-◌, ◌≤◌}
+use mathlib.Core.Path.{ap}
 use native.Mathlib.Omega.{arith}
-use lib.ListN.{drop, length}
-use Rattle.der_elements.specs.Elements.{contents_of}
+use lib.ListN.{length}
 use Rattle.der_elements.proofs.Laws.Contents.{contents-counted, contents-end}
 use Rattle.der.proofs.elements.count_contents.Goals as goal
 

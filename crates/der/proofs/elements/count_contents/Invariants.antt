@@ -1,9 +1,7 @@
-use mathlib.Core.Path.{◌≡◌, refl, ap}
+use mathlib.Core.Path.{◌≡◌}
 use Prim.Native.Nat.{◌+◌, ◌-◌, ◌≤◌}
-use native.Mathlib.Omega.{arith}
 use lib.ListN.{drop, length}
 use Rattle.der_elements.specs.Elements.{contents_of}
-use Rattle.der_elements.proofs.Laws.Contents.{contents-counted, contents-end}
 use Rattle.der.proofs.elements.count_contents.Given as goal
 
 abbrev pub invariant-loop-i : goal.invariant-loop-i

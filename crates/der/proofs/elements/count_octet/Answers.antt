@@ -8,12 +8,12 @@ omits-requires c = tt
 
 pub returns-then-omits : goal.returns-then-omits
 returns-then-omits c = record {
-      value = rw (octet_omitted _ _ (sym c.omits.ensures ∙ c.if-omits.true));
-      upper_bound = search rules;
-    }
+  value = rw (octet_omitted _ _ (sym c.omits.ensures ∙ c.if-omits.true));
+  upper_bound = search rules;
+}
 
 pub returns : goal.returns
 returns c = record {
-      value = rw (octet_kept _ _ (sym c.omits.ensures ∙ c.if-omits.false));
-      upper_bound = search rules;
-    }
+  value = rw (octet_kept _ _ (sym c.omits.ensures ∙ c.if-omits.false));
+  upper_bound = search rules;
+}

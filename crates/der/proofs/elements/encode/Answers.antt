@@ -20,14 +20,14 @@ refused-requires c = tt
 
 pub returns-in-Value : goal.returns-in-Value
 returns-in-Value c = rw (
-      der-admitted c.args.t c.args.text.now,
-      sym c.admit-admission.ensures ∙ c.in-Value.is,
-      ← c.name-name.ensures,
-    ) (c.write_value.ensures)
+  der-admitted c.args.t c.args.text.now,
+  sym c.admit-admission.ensures ∙ c.in-Value.is,
+  ← c.name-name.ensures,
+) (c.write_value.ensures)
 
 pub returns-in-Refused : goal.returns-in-Refused
 unfolding outcome_of room_of
 returns-in-Refused c = rw (der-admitted c.args.t c.args.text.now, sym c.admit-admission.ensures ∙ c.in-Refused.is) (record {
-      value = c.refused.ensures;
-      room_after = refl;
-    })
+  value = c.refused.ensures;
+  room_after = refl;
+})

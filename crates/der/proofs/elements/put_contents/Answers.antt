@@ -1,11 +1,6 @@
-use mathlib.Core.Path.{◌≡◌, refl, sym, ◌∙◌}
-use Prim.Native.Nat.{◌+◌, ◌-◌, ◌≤◌}
+use mathlib.Core.Path.{refl, sym, ◌∙◌}
 use native.Mathlib.Omega.{arith}
-use lib.ListN.{drop, length}
-use lib.Seq.{sets}
-use Rattle.octets.specs.Stores.{StoredText}
 use Rattle.octets.proofs.Laws.Stores.{put_rest}
-use Rattle.der_elements.specs.Elements.{contents_of}
 use Rattle.der_elements.proofs.Laws.Contents.{contents-counted, contents-end, contents_step}
 use Rattle.der.proofs.elements.put_contents.Goals as goal
 

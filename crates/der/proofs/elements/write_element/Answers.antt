@@ -37,9 +37,9 @@ refused-requires c = tt
 
 pub returns-then-room-length : goal.returns-then-room-length
 returns-then-room-length c = record {
-      value = (left_out _ _ _ (let e = counted (goal.at.returns-then-room-length c).After-tag_length in omega arith) c.refused.ensures refl).0;
-      room_after = (left_out _ _ _ (let e = counted (goal.at.returns-then-room-length c).After-tag_length in omega arith) c.refused.ensures refl).1;
-    }
+  value = (left_out _ _ _ (let e = counted (goal.at.returns-then-room-length c).After-tag_length in omega arith) c.refused.ensures refl).0;
+  room_after = (left_out _ _ _ (let e = counted (goal.at.returns-then-room-length c).After-tag_length in omega arith) c.refused.ensures refl).1;
+}
 
 pub overflow_cast-count : goal.overflow_cast-count
 overflow_cast-count c = omega (arith, c.count_contents-count.ensures.upper_bound, c.requires)
@@ -52,7 +52,7 @@ returns c = let a = c.args in
     let e = (counted (goal.at.returns c).After-tag_length).0 in
     let h : length (element a.name (contents (goal.at.returns c).After-tag_length)) ≤ length a.room.now = omega arith in record {
       value = (put_in _ _ _ h (λ i. record { number = 0; bits = record { count = 0 }; length = record { count = e i } })
-    (c.put_element.ensures.text ∙ sets-front a.room.now (element a.name (contents (goal.at.returns c).After-tag_length)) h)).0;
+          (c.put_element.ensures.text ∙ sets-front a.room.now (element a.name (contents (goal.at.returns c).After-tag_length)) h)).0;
       room_after = (put_in _ _ _ h (λ i. record { number = 0; bits = record { count = 0 }; length = record { count = e i } })
-    (c.put_element.ensures.text ∙ sets-front a.room.now (element a.name (contents (goal.at.returns c).After-tag_length)) h)).1;
+          (c.put_element.ensures.text ∙ sets-front a.room.now (element a.name (contents (goal.at.returns c).After-tag_length)) h)).1;
     }

@@ -34,6 +34,6 @@ write_element-requires c =
 pub returns : goal.returns
 unfolding element_of
 returns c = rw (
-      ← printed-text _ c.requires,
-      ← text_taken _ _ (omega arith) c.text_into-length.ensures.value c.text_into-length.ensures.buffer_after,
-    ) (c.write_element.ensures)
+  ← printed-text _ c.requires,
+  ← text_taken _ _ (omega arith) c.text_into-length.ensures.value c.text_into-length.ensures.buffer_after,
+) (c.write_element.ensures)

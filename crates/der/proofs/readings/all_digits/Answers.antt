@@ -1,8 +1,5 @@
-use mathlib.Core.Path.{◌≡◌, refl, sym, ◌∙◌}
-use Prim.Native.Nat.{◌-◌, ◌≤◌}
+use mathlib.Core.Path.{refl, sym, ◌∙◌}
 use native.Mathlib.Omega.{arith}
-use lib.ListN.{drop, length}
-use Rattle.der_elements.specs.Readings.{all_digits}
 use Rattle.der_elements.proofs.Laws.Readings.{above_digits, below-digits, digit_here, digits-end}
 use Rattle.der.proofs.readings.all_digits.Goals as goal
 

@@ -1,9 +1,7 @@
-use mathlib.Core.Path.{◌≡◌, refl, sym, ◌∙◌}
+use mathlib.Core.Path.{◌≡◌}
 use Prim.Native.Nat.{◌-◌, ◌≤◌}
-use native.Mathlib.Omega.{arith}
 use lib.ListN.{drop, length}
 use Rattle.der_elements.specs.Readings.{all_digits}
-use Rattle.der_elements.proofs.Laws.Readings.{above_digits, below-digits, digit_here, digits-end}
 use Rattle.der.proofs.readings.all_digits.Given as goal
 
 abbrev pub invariant-loop-i : goal.invariant-loop-i

@@ -3,7 +3,6 @@ use mathlib.Core.Bool.{true}
 use native.Mathlib.Omega.{arith}
 use lib.ListN.{length, length-set}
 use lib.Seq.{length-take-le}
-use borrow.Author.Tests.{not-false, not-true}
 use Rattle.der_elements.specs.Readings.{digits_only}
 use Rattle.der_elements.proofs.Laws.Readings.{date_size, date_time_stored, digits-count, time_digits}
 use Rattle.texts.specs.Texts.{read_of}

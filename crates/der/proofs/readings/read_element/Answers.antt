@@ -1,6 +1,5 @@
 use mathlib.Core.Path.{◌≡◌, sym, ◌∙◌}
 use native.Mathlib.Omega.{arith}
-use borrow.Author.Tests.{not-false, not-true}
 use Rattle.der_elements.specs.Readings.{read_element}
 use lib.ListN.{length}
 use Rattle.der_elements.specs.Elements.{tag_of}

@@ -4,7 +4,6 @@ use Prim.Native.Nat.{◌+◌, ◌≤◌}
 use native.Mathlib.Omega.{arith}
 use lib.ListN.{length}
 use lib.Seq.{length-take-le}
-use borrow.Author.Tests.{not-false, not-true}
 use Rattle.der_elements.specs.Readings.{digits_only, separated}
 use Rattle.der_elements.proofs.Laws.Readings.{digits-count, front_stored, separated_size}
 use Rattle.texts.specs.Texts.{read_of}

@@ -1,9 +1,7 @@
 use mathlib.Core.Path.{◌≡◌, ◌∙◌, refl, sym}
 use mathlib.Core.List.{[]}
-use Prim.Native.Nat.{◌+◌, ◌*◌, ◌-◌, ◌≤◌}
 use native.Mathlib.Omega.{arith}
-use lib.ListN.{length, drop, length-set}
-use lib.Seq.{sets}
+use lib.ListN.{drop, length-set}
 use Rattle.line_replies.specs.Lines.{to_hex}
 use Rattle.lines.proofs.Laws.Hex.{pair_put, hex_length, hex_none}
 use Rattle.lines.proofs.hex.put_hex.Goals as goal
@@ -28,6 +26,6 @@ loop-i-preserved c = (
 
 pub returns : goal.returns
 returns c = let z : to_hex (drop c.loop-i.i c.args.octets.now) ≡ [] = hex_none _ _ c.loop-i-test.false in record {
-      stored_text = record { text = rw z at c.loop-i.invariant.3; end = rw hex_length (omega arith) };
-      value = omega arith;
-    }
+  stored_text = record { text = rw z at c.loop-i.invariant.3; end = rw hex_length (omega arith) };
+  value = omega arith;
+}

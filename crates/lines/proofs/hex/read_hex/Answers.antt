@@ -1,8 +1,6 @@
-use mathlib.Core.Path.{◌≡◌, ◌∙◌, ap, refl, sym}
-use Prim.Native.Nat.{◌*◌, ◌-◌, ◌≤◌}
+use mathlib.Core.Path.{◌∙◌, ap, refl, sym}
 use native.Mathlib.Omega.{arith}
-use lib.ListN.{length, drop, take, length-set}
-use Rattle.line_replies.specs.Lines.{from_hex}
+use lib.ListN.{length-set}
 use Rattle.lines.proofs.Laws.Hex.{behind, behind_none, pair_read, first_bad, second_bad, half_left, none_left}
 use Rattle.lines.proofs.hex.read_hex.Goals as goal
 
@@ -38,12 +36,12 @@ loop-i-preserved c =
 
 pub returns-then-i-text : goal.returns-then-i-text
 returns-then-i-text c = record {
-      buffer_after = sym (c.loop-i.invariant.3 ∙ ap (behind _) (half_left _ _ c.if-i-text.true c.loop-i-test.false));
-      result_in_bounds = omega arith;
-    }
+  buffer_after = sym (c.loop-i.invariant.3 ∙ ap (behind _) (half_left _ _ c.if-i-text.true c.loop-i-test.false));
+  result_in_bounds = omega arith;
+}
 
 pub returns : goal.returns
 returns c = record {
-      buffer_after = sym (c.loop-i.invariant.3 ∙ none_left _ _ _ c.if-i-text.false);
-      result_in_bounds = omega arith;
-    }
+  buffer_after = sym (c.loop-i.invariant.3 ∙ none_left _ _ _ c.if-i-text.false);
+  result_in_bounds = omega arith;
+}

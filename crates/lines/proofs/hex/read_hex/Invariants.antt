@@ -1,9 +1,8 @@
-use mathlib.Core.Path.{◌≡◌, ◌∙◌, ap, refl, sym}
+use mathlib.Core.Path.{◌≡◌}
 use Prim.Native.Nat.{◌*◌, ◌-◌, ◌≤◌}
-use native.Mathlib.Omega.{arith}
-use lib.ListN.{length, drop, take, length-set}
+use lib.ListN.{length, drop, take}
 use Rattle.line_replies.specs.Lines.{from_hex}
-use Rattle.lines.proofs.Laws.Hex.{behind, behind_none, pair_read, first_bad, second_bad, half_left, none_left}
+use Rattle.lines.proofs.Laws.Hex.{behind}
 use Rattle.lines.proofs.hex.read_hex.Given as goal
 
 abbrev pub invariant-loop-i : goal.invariant-loop-i

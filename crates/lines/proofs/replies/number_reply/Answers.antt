@@ -8,6 +8,6 @@ bounds-room-1 c = simp length-set (omega arith)
 
 pub returns : goal.returns
 returns c = record {
-      stored_text = put_octet (put_octet (put_none _ _));
-      upper_bound = omega arith;
-    }
+  stored_text = put_octet (put_octet (put_none _ _));
+  upper_bound = omega arith;
+}

@@ -1,10 +1,6 @@
-use mathlib.Core.Path.{◌≡◌, sym, ◌∙◌}
-use Prim.Native.Nat.{◌+◌, ◌-◌, ◌≤◌}
+use mathlib.Core.Path.{sym, ◌∙◌}
 use native.Mathlib.Omega.{arith}
-use lib.ListN.{length, drop}
-use Rattle.octets.specs.Pieces.{split_on}
 use Rattle.octets.proofs.Laws.Pieces.{found_within}
-use Rattle.lists.specs.Lists.{settings, none_yet, add_pairs}
 use Rattle.lists.proofs.Laws.Lists.{six_properties, next_pair, last_pair}
 use Rattle.lists.proofs.lists.read_pairs.Goals as goal
 

@@ -1,10 +1,6 @@
 use mathlib.Core.Path.{sym, ◌∙◌}
-use mathlib.Core.List.{List}
-use Prim.Native.Nat.{◌-◌}
-use Prim.Native.String.{String}
 use native.Mathlib.Omega.{arith}
-use Rattle.lists.specs.Words.{Has, place_in}
-use Rattle.lists.proofs.Laws.Words.{Left, left_all, left_none, left_hit, left_miss, next_within}
+use Rattle.lists.proofs.Laws.Words.{left_all, left_none, left_hit, left_miss, next_within}
 use Rattle.lists.proofs.words.place_in.Goals as goal
 
 pub loop-place-init : goal.loop-place-init

@@ -8,13 +8,13 @@ use Rattle.packing.proofs.dates.choice_of_year.Goals as goal
 
 pub returns-in-Since : goal.returns-in-Since
 returns-in-Since c = let e = is_since (astronomical_of c.args.year) c.distance-distance.ensures c.in-Since.is in record {
-      result_value = rw e c.near_year.ensures.result_value;
-      fits = search rules;
-    }
+  result_value = rw e c.near_year.ensures.result_value;
+  fits = search rules;
+}
 
 pub returns-in-Before : goal.returns-in-Before
 unfolding choice_of_year other_year field_bits width binary_digits
 returns-in-Before c = let e = is_before (astronomical_of c.args.year) c.distance-distance.ensures c.in-Before.is c.minus.ensures in record {
-      result_value = two_fields (ap choice_of_year e) c.join.ensures.result_value c.field.ensures.result_value c.negative.ensures.result_value;
-      fits = search rules;
-    }
+  result_value = two_fields (ap choice_of_year e) c.join.ensures.result_value c.field.ensures.result_value c.negative.ensures.result_value;
+  fits = search rules;
+}

@@ -6,6 +6,6 @@ use Rattle.packing.proofs.dates.date_group.Goals as goal
 pub returns : goal.returns
 unfolding date_fields
 returns c = record {
-      result_value = rw (c.join.ensures.result_value, c.year_group.ensures.result_value, c.day_group.ensures.result_value, c.year_of.ensures, layout-append);
-      fits = search rules;
-    }
+  result_value = rw (c.join.ensures.result_value, c.year_group.ensures.result_value, c.day_group.ensures.result_value, c.year_of.ensures, layout-append);
+  fits = search rules;
+}

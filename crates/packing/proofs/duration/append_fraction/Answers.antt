@@ -9,23 +9,23 @@ use Rattle.packing.proofs.duration.append_fraction.Goals as goal
 
 pub returns-then-digits-eq0 : goal.returns-then-digits-eq0
 returns-then-digits-eq0 c = record {
-      added = rw (no_digits _ c.args.fraction c.if-digits-eq0.true) (added_none _ c.args.waiting c.requires.ready c.requires.fits);
-      result_bound = omega arith;
-    }
+  added = rw (no_digits _ c.args.fraction c.if-digits-eq0.true) (added_none _ c.args.waiting c.requires.ready c.requires.fits);
+  result_bound = omega arith;
+}
 
 pub extended-count-requires : goal.extended-count-requires
 unfolding width binary_digits
 extended-count-requires c = record {
-      count_bound = omega arith;
-      count_value = refl;
-    }
+  count_bound = omega arith;
+  count_value = refl;
+}
 
 pub extended-value-requires : goal.extended-value-requires
 unfolding width binary_digits
 extended-value-requires c = record {
-      count_bound = omega arith;
-      count_value = refl;
-    }
+  count_bound = omega arith;
+  count_value = refl;
+}
 
 pub append-requires : goal.append-requires
 append-requires c = let a = c.append-counted.ensures in

@@ -1,15 +1,8 @@
 use mathlib.Core.Path.{◌≡◌, refl, sym, ap, ◌∙◌}
 use mathlib.Core.List.{List, [], ◌++◌, append-nil}
-use Prim.Native.Nat.{ℕ, ◌+◌, ◌-◌, ◌*◌, ◌≤◌, ◌<◌}
+use Prim.Native.Nat.{ℕ, ◌<◌}
 use native.Mathlib.Omega.{arith}
-use lib.ListN.{drop, get_or}
-use Rattle.fields.specs.Bits.{BitString}
-use Rattle.fields.specs.Fields.{layout}
-use Rattle.durations.specs.declared.Duration.{Duration}
-use Rattle.durations.specs.Durations.{numbers_of, parts_of}
-use Rattle.durations.specs.Fields.{roots, number_fields}
-use Rattle.packing.specs.declared.waiting.Waiting.{Waiting}
-use Rattle.packing.specs.Waiting.{Added, waiting_count}
+use lib.ListN.{get_or}
 use Rattle.packing.proofs.Laws.Writing.{length_group}
 use Rattle.packing.proofs.Laws.Waiting.{added_none, added_twice}
 use Rattle.packing.proofs.Laws.Durations.{numbers_next, numbers-end}
@@ -27,11 +20,11 @@ loop-place-init c =
 
 pub append-so_far-requires : goal.append-so_far-requires
 append-so_far-requires c = let l = c.loop-place in record {
-      ready = l.invariant.added.ready;
-      fits = l.invariant.added.fits;
-      fits_2 = c.component-group.ensures.fits;
-      waiting_bound = omega (arith, l.invariant.few, l.invariant.added.len);
-    }
+  ready = l.invariant.added.ready;
+  fits = l.invariant.added.fits;
+  fits_2 = c.component-group.ensures.fits;
+  waiting_bound = omega (arith, l.invariant.few, l.invariant.added.len);
+}
 
 pub loop-place-smaller : goal.loop-place-smaller
 loop-place-smaller c = omega arith

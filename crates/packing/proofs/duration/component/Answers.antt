@@ -13,13 +13,13 @@ extended-requires c =
 pub returns-then-is_there : goal.returns-then-is_there
 unfolding component_fields layout
 returns-then-is_there c = record {
-      result_value = rw (sym c.is_there.ensures ∙ c.if-is_there.true) c.extended.ensures.result_value;
-      fits = search rules;
-    }
+  result_value = rw (sym c.is_there.ensures ∙ c.if-is_there.true) c.extended.ensures.result_value;
+  fits = search rules;
+}
 
 pub returns : goal.returns
 unfolding component_fields layout
 returns c = record {
-      result_value = rw (sym c.is_there.ensures ∙ c.if-is_there.false) c.nothing.ensures.result_value;
-      fits = search rules;
-    }
+  result_value = rw (sym c.is_there.ensures ∙ c.if-is_there.false) c.nothing.ensures.result_value;
+  fits = search rules;
+}

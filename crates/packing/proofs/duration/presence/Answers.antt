@@ -5,13 +5,13 @@ use Rattle.packing.proofs.duration.presence.Goals as goal
 pub returns-then-there : goal.returns-then-there
 unfolding field_bits width binary_digits
 returns-then-there c = record {
-      result_value = rw c.if-there.true c.field.ensures.result_value;
-      fits = search rules;
-    }
+  result_value = rw c.if-there.true c.field.ensures.result_value;
+  fits = search rules;
+}
 
 pub returns : goal.returns
 unfolding field_bits width binary_digits
 returns c = record {
-      result_value = rw c.if-there.false c.field-2.ensures.result_value;
-      fits = search rules;
-    }
+  result_value = rw c.if-there.false c.field-2.ensures.result_value;
+  fits = search rules;
+}

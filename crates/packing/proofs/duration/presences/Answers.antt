@@ -1,11 +1,10 @@
 use mathlib.Core.Path.{◌≡◌, sym, ap, ◌∙◌}
 use mathlib.Core.List.{List, ◌++◌, append-nil}
-use Prim.Native.Nat.{ℕ, ◌-◌, ◌≤◌, ◌<◌}
+use Prim.Native.Nat.{ℕ, ◌<◌}
 use native.Mathlib.Nat.{le_refl}
 use native.Mathlib.Omega.{arith}
-use lib.ListN.{drop, get_or}
+use lib.ListN.{get_or}
 use Rattle.fields.specs.Fields.{layout}
-use Rattle.durations.specs.declared.Duration.{Duration}
 use Rattle.durations.specs.Durations.{parts_of}
 use Rattle.durations.specs.Fields.{presences as presencesOf}
 use Rattle.packing.specs.declared.groups.Group.{Group}

@@ -14,6 +14,6 @@ overflow_add-result c =
 pub returns : goal.returns
 unfolding group_bits
 returns c = let e = c.power.ensures in record {
-      result_value = joined-bits _ _ _ _ _ e c.requires.fits.small c.requires.fits_2.small;
-      fits_3 = record { few = omega arith; small = joined-lt _ _ _ _ _ e c.requires.fits.small c.requires.fits_2.small };
-    }
+  result_value = joined-bits _ _ _ _ _ e c.requires.fits.small c.requires.fits_2.small;
+  fits_3 = record { few = omega arith; small = joined-lt _ _ _ _ _ e c.requires.fits.small c.requires.fits_2.small };
+}

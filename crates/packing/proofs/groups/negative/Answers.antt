@@ -9,6 +9,6 @@ overflow_sub-power c = omega (arith, pow_pos c.integer_width-width.result.count)
 
 pub returns : goal.returns
 returns c = let w = c.integer_width-width in record {
-      result_value = c.counted.ensures.result_value ∙ negative_bits _ _ _ _ w.ensures.count_value c.power.ensures c.minus.ensures;
-      fits = c.counted.ensures.fits;
-    }
+  result_value = c.counted.ensures.result_value ∙ negative_bits _ _ _ _ w.ensures.count_value c.power.ensures c.minus.ensures;
+  fits = c.counted.ensures.fits;
+}

@@ -7,6 +7,6 @@ use Rattle.packing.proofs.groups.nothing.Goals as goal
 pub returns : goal.returns
 unfolding group_bits bits_of
 returns c = record {
-      result_value = refl;
-      fits = record { few = omega arith; small = omega arith };
-    }
+  result_value = refl;
+  fits = record { few = omega arith; small = omega arith };
+}

@@ -4,6 +4,6 @@ use Rattle.packing.proofs.times.after_group.Goals as goal
 
 pub returns : goal.returns
 returns c = record {
-      result_value = rw (c.join.ensures.result_value, c.fraction_group.ensures.result_value, c.zone_group.ensures.result_value, layout-append);
-      fits = search rules;
-    }
+  result_value = rw (c.join.ensures.result_value, c.fraction_group.ensures.result_value, c.zone_group.ensures.result_value, layout-append);
+  fits = search rules;
+}

@@ -8,9 +8,9 @@ use Rattle.packing.proofs.waiting.close.Goals as goal
 
 pub finish-requires : goal.finish-requires
 finish-requires c = let p = c.put-end.ensures in record {
-      ready = p.ready;
-      room = omega (arith, p.place, p.len, length_group c.args.waiting.group);
-    }
+  ready = p.ready;
+  room = omega (arith, p.place, p.len, length_group c.args.waiting.group);
+}
 
 pub overflow_cast-result : goal.overflow_cast-result
 overflow_cast-result c =
@@ -29,7 +29,7 @@ overflow_add-result c =
 
 pub returns : goal.returns
 returns c = let p = c.put-end in record {
-      value = ap (λ (n : ℕ). record { count = n }) (let e : 8 * p.result.octets.count + p.result.held.count ≡ waiting_count c.args.waiting =
-          omega (arith, p.ensures.place, length_group c.args.waiting.group) in e);
-      out_after = c.finish.ensures ∙ closed_put c.args.waiting p.result c.requires.waiting_bound p.ensures;
-    }
+  value = ap (λ (n : ℕ). record { count = n }) (let e : 8 * p.result.octets.count + p.result.held.count ≡ waiting_count c.args.waiting =
+      omega (arith, p.ensures.place, length_group c.args.waiting.group) in e);
+  out_after = c.finish.ensures ∙ closed_put c.args.waiting p.result c.requires.waiting_bound p.ensures;
+}

@@ -1,10 +1,8 @@
 use mathlib.Core.Path.{◌≡◌, refl}
-use mathlib.Core.List.{List}
-use Prim.Native.Nat.{ℕ, ◌≤◌, ◌<◌, ◌+◌, ◌-◌, ◌*◌, ◌/◌, ◌^◌}
+use Prim.Native.Nat.{ℕ, ◌≤◌, ◌<◌, ◌+◌, ◌*◌, ◌/◌, ◌^◌}
 use native.Mathlib.Omega.{arith}
 use lib.ListN.{length, length-set}
-use lib.Pow.{pow_pos}
-use Rattle.packing.proofs.Laws.Writing.{begun_le, cut, flushed, low_next, low_none, low_from}
+use Rattle.packing.proofs.Laws.Writing.{begun_le, cut, flushed, low_next, low_none}
 use Rattle.packing.proofs.writing.flush.Goals as goal
 use Rattle.packing.proofs.writing.flush.Goals.{After-octets-whole}
 

@@ -2,7 +2,6 @@ use mathlib.Core.Path.{◌∙◌, ◌≡◌, ap, refl, sym}
 use native.Mathlib.Omega.{arith}
 use lib.ListN.{length}
 use lib.Seq.{length-take-le}
-use borrow.Author.Tests.{not-false, not-true}
 use Rattle.answers.specs.Outcomes.{outcome_of, room_of}
 use Rattle.answers.specs.declared.counts.Octets.{Octets}
 use Rattle.kinds.specs.Coding.{compared}

@@ -1,5 +1,4 @@
 use mathlib.Core.Path.{refl, sym, ◌∙◌}
-use borrow.Author.Tests.{not-false, not-true}
 use Rattle.answers.specs.Outcomes.{outcome_of, room_of}
 use Rattle.kinds.specs.Coding.{decoded, judged_octets}
 use Rattle.rows.specs.Readings.{read_octets}
@@ -11,9 +10,9 @@ use Rattle.per.proofs.coding.decode.Goals as goal
 pub returns-then-not-well_formed : goal.returns-then-not-well_formed
 unfolding decoded outcome_of room_of
 returns-then-not-well_formed c = rw (sym c.well_formed-2.ensures ∙ c.if-not-well_formed.true) (record {
-      value = c.refused.ensures;
-      room_after = refl;
-    })
+  value = c.refused.ensures;
+  room_after = refl;
+})
 
 pub returns-in_default : goal.returns-in_default
 unfolding decoded judged_octets outcome_of room_of

@@ -3,7 +3,6 @@ use native.Mathlib.Omega.{arith}
 use lib.ListN.{length}
 use lib.Seq.{length-take-le}
 use Rattle.answers.specs.declared.counts.Octets.{Octets}
-use borrow.Author.Tests.{not-false, not-true}
 use Rattle.answers.specs.Outcomes.{outcome_of, room_of}
 use Rattle.kinds.specs.Coding.{compared}
 use Rattle.packing.proofs.Laws.Durations.{duration-short}
@@ -25,13 +24,13 @@ slice_bounds-same-end c =
 pub returns-then-not-same : goal.returns-then-not-same
 unfolding compared outcome_of room_of
 returns-then-not-same c = rw (
-      ← duration_octets _ c.pack_duration-packed.ensures
-          (ap (λ (o : Octets). o.count) c.octets-count.ensures),
-      sym c.same.ensures ∙ c.if-not-same.true,
-    ) (record {
-      value = c.refused.ensures;
-      room_after = refl;
-    })
+  ← duration_octets _ c.pack_duration-packed.ensures
+      (ap (λ (o : Octets). o.count) c.octets-count.ensures),
+  sym c.same.ensures ∙ c.if-not-same.true,
+) (record {
+  value = c.refused.ensures;
+  room_after = refl;
+})
 
 pub deliver_duration-requires : goal.deliver_duration-requires
 deliver_duration-requires c = c.requires
@@ -39,8 +38,8 @@ deliver_duration-requires c = c.requires
 pub returns : goal.returns
 unfolding compared
 returns c = rw (
-      ← duration-bits _ c.pack_duration-packed.ensures,
-      ← duration_octets _ c.pack_duration-packed.ensures
-          (ap (λ (o : Octets). o.count) c.octets-count.ensures),
-      sym c.same.ensures ∙ c.if-not-same.false,
-    ) (c.deliver_duration.ensures)
+  ← duration-bits _ c.pack_duration-packed.ensures,
+  ← duration_octets _ c.pack_duration-packed.ensures
+      (ap (λ (o : Octets). o.count) c.octets-count.ensures),
+  sym c.same.ensures ∙ c.if-not-same.false,
+) (c.deliver_duration.ensures)

@@ -12,13 +12,13 @@ use Rattle.per.proofs.duration.decode_duration.Goals as goal
 pub returns-in_default : goal.returns-in_default
 unfolding outcome_of room_of
 returns-in_default c = rw (
-      duration-decodes AnyType.Duration named c.args.octets.now,
-      read_back (duration_in_octets c.args.octets.now)
-          c.unpack_duration.ensures ∙ ap of_read c.in_default.is,
-    ) (record {
-      value = c.refused.ensures;
-      room_after = refl;
-    })
+  duration-decodes AnyType.Duration named c.args.octets.now,
+  read_back (duration_in_octets c.args.octets.now)
+      c.unpack_duration.ensures ∙ ap of_read c.in_default.is,
+) (record {
+  value = c.refused.ensures;
+  room_after = refl;
+})
 
 pub compare_duration-requires : goal.compare_duration-requires
 compare_duration-requires c = octets_exist _ _ (read_back _ c.unpack_duration.ensures
@@ -27,8 +27,8 @@ compare_duration-requires c = octets_exist _ _ (read_back _ c.unpack_duration.en
 pub returns : goal.returns
 unfolding compared
 returns c = rw (
-      duration-decodes AnyType.Duration named c.args.octets.now,
-      read_back (duration_in_octets c.args.octets.now)
-          c.unpack_duration.ensures
-          ∙ ap of_read c.in-Duration.is,
-    ) (c.compare_duration.ensures)
+  duration-decodes AnyType.Duration named c.args.octets.now,
+  read_back (duration_in_octets c.args.octets.now)
+      c.unpack_duration.ensures
+      ∙ ap of_read c.in-Duration.is,
+) (c.compare_duration.ensures)

@@ -10,18 +10,18 @@ use Rattle.per.proofs.duration.encode_duration.Goals as goal
 pub returns-in_default : goal.returns-in_default
 unfolding outcome_of room_of
 returns-in_default c = rw (
-      duration-encodes AnyType.Duration named c.args.text.now,
-      read_back (read_duration c.args.text.now) c.read_duration.ensures
-          ∙ ap of_read c.in_default.is,
-    ) (record {
-      value = c.refused.ensures;
-      room_after = refl;
-    })
+  duration-encodes AnyType.Duration named c.args.text.now,
+  read_back (read_duration c.args.text.now) c.read_duration.ensures
+      ∙ ap of_read c.in_default.is,
+) (record {
+  value = c.refused.ensures;
+  room_after = refl;
+})
 
 pub returns : goal.returns
 returns c = rw (
-      duration-encodes AnyType.Duration named c.args.text.now,
-      read_back (read_duration c.args.text.now)
-          c.read_duration.ensures
-          ∙ ap of_read c.in-Duration.is,
-    ) (c.write_duration.ensures)
+  duration-encodes AnyType.Duration named c.args.text.now,
+  read_back (read_duration c.args.text.now)
+      c.read_duration.ensures
+      ∙ ap of_read c.in-Duration.is,
+) (c.write_duration.ensures)

@@ -1,9 +1,7 @@
 use mathlib.Core.Path.{◌≡◌}
 use Prim.Native.Nat.{◌+◌, ◌-◌, ◌≤◌}
-use native.Mathlib.Omega.{arith}
 use Rattle.texts.specs.Years.{size_in}
 use Rattle.durations.specs.Texts.{number_digits}
-use Rattle.printing.proofs.Laws.Durations.{digits-first, digits_next, digits_none, digits_all}
 use Rattle.printing.proofs.duration.number_digits.Given as goal
 
 abbrev pub invariant-loop-width : goal.invariant-loop-width

@@ -1,5 +1,4 @@
 use native.Mathlib.Omega.{arith}
-use mathlib.Core.Path.{◌∙◌}
 use lib.ListN.{length-set}
 use Rattle.octets.proofs.Laws.Stores.{put_octet, put_then}
 use Rattle.printing.proofs.Laws.Durations.{duration_parts}
@@ -13,7 +12,7 @@ put_last-requires c = let k = simp length-set at c.put_all_earlier-p.auto.b in (
 
 pub returns : goal.returns
 returns c = record {
-      stored_text = rw (duration_parts c.args.duration (omega arith))
-          (put_octet (put_then c.put_all_earlier-p.ensures.stored_text c.put_last.ensures.stored_text));
-      upper_bound = omega arith;
-    }
+  stored_text = rw (duration_parts c.args.duration (omega arith))
+      (put_octet (put_then c.put_all_earlier-p.ensures.stored_text c.put_last.ensures.stored_text));
+  upper_bound = omega arith;
+}

@@ -1,11 +1,7 @@
 use native.Mathlib.Omega.{arith}
 use mathlib.Core.Path.{◌≡◌, refl, ◌∙◌}
-use mathlib.Core.List.{List}
-use Prim.Native.Nat.{ℕ, ◌+◌, ◌-◌, ◌*◌, ◌≤◌}
 use lib.ListN.{length}
-use Rattle.octets.specs.Stores.{StoredText}
 use Rattle.octets.proofs.Laws.Stores.{put_none, put_then}
-use Rattle.printing.specs.Durations.{between, designators, put_earlier}
 use Rattle.printing.proofs.Laws.Durations.{several_first, several_none}
 use borrow.Author.Rules.{rules}
 use Rattle.printing.proofs.duration.put_several.Goals as goal
@@ -27,6 +23,6 @@ loop-place-preserved c =
 
 pub returns : goal.returns
 returns c = let l = c.loop-place in record {
-      stored_text = l.invariant.4 _ _ (rw (several_none _ _ _ c.loop-place-test.false) (put_none _ _));
-      upper_bound = omega (arith, l.invariant.3);
-    }
+  stored_text = l.invariant.4 _ _ (rw (several_none _ _ _ c.loop-place-test.false) (put_none _ _));
+  upper_bound = omega (arith, l.invariant.3);
+}

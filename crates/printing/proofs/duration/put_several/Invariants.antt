@@ -1,12 +1,9 @@
-use native.Mathlib.Omega.{arith}
-use mathlib.Core.Path.{◌≡◌, refl, ◌∙◌}
+use mathlib.Core.Path.{◌≡◌}
 use mathlib.Core.List.{List}
 use Prim.Native.Nat.{ℕ, ◌+◌, ◌-◌, ◌*◌, ◌≤◌}
 use lib.ListN.{length}
 use Rattle.octets.specs.Stores.{StoredText}
-use Rattle.octets.proofs.Laws.Stores.{put_none, put_then}
 use Rattle.printing.specs.Durations.{between, designators, put_earlier}
-use Rattle.printing.proofs.Laws.Durations.{several_first, several_none}
 use Rattle.printing.proofs.duration.put_several.Given as goal
 
 abbrev pub invariant-loop-place : goal.invariant-loop-place

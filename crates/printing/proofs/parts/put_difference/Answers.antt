@@ -6,6 +6,6 @@ use Rattle.printing.proofs.parts.put_difference.Goals as goal
 pub returns : goal.returns
 unfolding put_zone
 returns c = record {
-      stored_text = rw (← c.sign.ensures) (put_then c.put_field-p.ensures.stored_text c.put_minutes.ensures.stored_text);
-      upper_bound = omega arith;
-    }
+  stored_text = rw (← c.sign.ensures) (put_then c.put_field-p.ensures.stored_text c.put_minutes.ensures.stored_text);
+  upper_bound = omega arith;
+}

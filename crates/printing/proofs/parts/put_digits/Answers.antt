@@ -1,8 +1,7 @@
 use mathlib.Core.Path.{◌≡◌, ◌∙◌}
-use Prim.Native.Nat.{suc, ◌≤◌, ◌-◌}
+use Prim.Native.Nat.{suc, ◌-◌}
 use native.Mathlib.Omega.{arith}
-use lib.ListN.{length, length-set}
-use lib.Seq.{sets}
+use lib.ListN.{length-set}
 use Rattle.texts.specs.Digits.{put_digits}
 use Rattle.texts.proofs.Laws.Digits.{length_put}
 use Rattle.printing.proofs.Laws.Stores.{digit_first}
@@ -16,6 +15,6 @@ loop-k-preserved c =
 pub returns : goal.returns
 unfolding put_digits
 returns c = let z : c.loop-k.k ≡ 0 = omega arith in record {
-      stored_text = record { text = rw z at c.loop-k.invariant.2; end = rw length_put };
-      value = omega arith;
-    }
+  stored_text = record { text = rw z at c.loop-k.invariant.2; end = rw length_put };
+  value = omega arith;
+}

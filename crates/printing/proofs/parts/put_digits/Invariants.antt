@@ -1,11 +1,8 @@
-use mathlib.Core.Path.{◌≡◌, ◌∙◌}
-use Prim.Native.Nat.{suc, ◌≤◌, ◌-◌}
-use native.Mathlib.Omega.{arith}
-use lib.ListN.{length, length-set}
+use mathlib.Core.Path.{◌≡◌}
+use Prim.Native.Nat.{◌≤◌}
+use lib.ListN.{length}
 use lib.Seq.{sets}
 use Rattle.texts.specs.Digits.{put_digits}
-use Rattle.texts.proofs.Laws.Digits.{length_put}
-use Rattle.printing.proofs.Laws.Stores.{digit_first}
 use Rattle.printing.proofs.parts.put_digits.Given as goal
 
 abbrev pub invariant-loop-k : goal.invariant-loop-k

@@ -1,4 +1,3 @@
-use mathlib.Core.Path.{◌∙◌}
 use native.Mathlib.Omega.{arith}
 use lib.ListN.{length-set}
 use Rattle.octets.proofs.Laws.Stores.{put_octet, put_then}
@@ -15,20 +14,20 @@ put_time-requires-in-DateTime c =
 pub returns-in-Date : goal.returns-in-Date
 unfolding render
 returns-in-Date c = record {
-      stored_text = rw c.in-Date.is c.put_date.ensures.stored_text;
-      upper_bound = omega arith;
-    }
+  stored_text = rw c.in-Date.is c.put_date.ensures.stored_text;
+  upper_bound = omega arith;
+}
 
 pub returns-in-Time : goal.returns-in-Time
 unfolding render
 returns-in-Time c = record {
-      stored_text = rw c.in-Time.is c.put_time.ensures.stored_text;
-      upper_bound = omega arith;
-    }
+  stored_text = rw c.in-Time.is c.put_time.ensures.stored_text;
+  upper_bound = omega arith;
+}
 
 pub returns-in-DateTime : goal.returns-in-DateTime
 unfolding render
 returns-in-DateTime c = let after = put_octet c.put_time-in-DateTime.ensures.stored_text in record {
-      stored_text = rw c.in-DateTime.is (put_then c.put_date-p.ensures.stored_text after);
-      upper_bound = omega arith;
-    }
+  stored_text = rw c.in-DateTime.is (put_then c.put_date-p.ensures.stored_text after);
+  upper_bound = omega arith;
+}

@@ -8,6 +8,6 @@ put_field-requires c = simp length-set (omega arith)
 
 pub returns : goal.returns
 returns c = record {
-      stored_text = put_octet c.put_field.ensures.stored_text;
-      value = omega arith;
-    }
+  stored_text = put_octet c.put_field.ensures.stored_text;
+  value = omega arith;
+}

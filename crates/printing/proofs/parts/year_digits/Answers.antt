@@ -1,5 +1,5 @@
 use native.Mathlib.Omega.{arith}
-use Rattle.texts.proofs.Laws.Sizes.{Counting, count_start, count-more, count-end}
+use Rattle.texts.proofs.Laws.Sizes.{count_start, count-more, count-end}
 use Rattle.printing.proofs.parts.year_digits.Goals as goal
 
 pub loop-m-init : goal.loop-m-init
@@ -13,6 +13,6 @@ loop-m-preserved c = (count-more _ _ _ c.loop-m.invariant c.loop-m-test.true).1
 
 pub returns : goal.returns
 returns c = record {
-      value = count-end _ _ _ c.loop-m.invariant c.loop-m-test.false;
-      upper_bound = c.loop-m.invariant.few;
-    }
+  value = count-end _ _ _ c.loop-m.invariant c.loop-m-test.false;
+  upper_bound = c.loop-m.invariant.few;
+}

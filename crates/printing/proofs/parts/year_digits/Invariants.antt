@@ -1,5 +1,4 @@
-use native.Mathlib.Omega.{arith}
-use Rattle.texts.proofs.Laws.Sizes.{Counting, count_start, count-more, count-end}
+use Rattle.texts.proofs.Laws.Sizes.{Counting}
 use Rattle.printing.proofs.parts.year_digits.Given as goal
 
 abbrev pub invariant-loop-m : goal.invariant-loop-m

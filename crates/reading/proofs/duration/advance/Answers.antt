@@ -7,9 +7,9 @@ use Rattle.reading.proofs.duration.advance.Goals as goal
 
 pub returns-then-found-place : goal.returns-then-found-place
 returns-then-found-place c = record {
-      count_bound = (omega arith, c.requires.2);
-      advanced = λ cs. rw add-one (added_other _ _ c.requires.2 _ (designator_pos _ c.requires.0) cs _ _ c.if-found-place.true);
-    }
+  count_bound = (omega arith, c.requires.2);
+  advanced = λ cs. rw add-one (added_other _ _ c.requires.2 _ (designator_pos _ c.requires.0) cs _ _ c.if-found-place.true);
+}
 
 pub returns : goal.returns
 returns c = let e = c.component_at-component.ensures in

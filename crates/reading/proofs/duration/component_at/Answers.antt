@@ -18,6 +18,6 @@ returns-in_default c = let e = c.no_component.ensures in
 pub returns : goal.returns
 unfolding IsComponent get_present get_behind
 returns c = let e = c.component_of.ensures in record {
-      at_value = e.at_value;
-      component = λ x h. e.by_index x h ∙ rw (e.at_value, told (seen _) c.number.ensures c.in-Got.is);
-    }
+  at_value = e.at_value;
+  component = λ x h. e.by_index x h ∙ rw (e.at_value, told (seen _) c.number.ensures c.in-Got.is);
+}

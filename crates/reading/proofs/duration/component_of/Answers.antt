@@ -8,9 +8,9 @@ use Rattle.reading.proofs.duration.component_of.Goals as goal
 
 pub returns-then-decimals-gt9 : goal.returns-then-decimals-gt9
 returns-then-decimals-gt9 c = let e = c.no_component.ensures in record {
-      at_value = ap (λ (g : Component). g.at) e;
-      by_index = λ x h. no_part _ _ e x h ∙ sym (behind_long _ _ _ c.fraction_length-decimals.ensures x h (omega arith));
-    }
+  at_value = ap (λ (g : Component). g.at) e;
+  by_index = λ x h. no_part _ _ e x h ∙ sym (behind_long _ _ _ c.fraction_length-decimals.ensures x h (omega arith));
+}
 
 pub returns-in_default : goal.returns-in_default
 returns-in_default c = let e = c.no_component-in_default.ensures in

@@ -1,7 +1,5 @@
-use mathlib.Core.Path.{◌≡◌, sym, ◌∙◌}
-use Prim.Native.Nat.{◌-◌, ◌≤◌}
+use mathlib.Core.Path.{sym, ◌∙◌}
 use native.Mathlib.Omega.{arith}
-use Rattle.reading.specs.Durations.{IsComponent, added_from, designators_in}
 use Rattle.reading.proofs.Laws.Tallies.{designators-first, added_none}
 use Rattle.reading.proofs.duration.components.Goals as goal
 
@@ -16,6 +14,6 @@ loop-place-preserved c =
 
 pub returns : goal.returns
 returns c = let l = c.loop-place in record {
-      text_value = sym (l.invariant.3 ∙ added_none _ _ _ _ c.loop-place-test.false);
-      count_le_end = omega (arith, l.invariant.0, l.invariant.1, c.loop-place-test.false);
-    }
+  text_value = sym (l.invariant.3 ∙ added_none _ _ _ _ c.loop-place-test.false);
+  count_le_end = omega (arith, l.invariant.0, l.invariant.1, c.loop-place-test.false);
+}

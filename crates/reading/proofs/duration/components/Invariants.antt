@@ -1,8 +1,6 @@
-use mathlib.Core.Path.{◌≡◌, sym, ◌∙◌}
+use mathlib.Core.Path.{◌≡◌}
 use Prim.Native.Nat.{◌-◌, ◌≤◌}
-use native.Mathlib.Omega.{arith}
 use Rattle.reading.specs.Durations.{IsComponent, added_from, designators_in}
-use Rattle.reading.proofs.Laws.Tallies.{designators-first, added_none}
 use Rattle.reading.proofs.duration.components.Given as goal
 
 abbrev pub invariant-loop-place : goal.invariant-loop-place

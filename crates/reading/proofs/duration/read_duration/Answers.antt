@@ -1,7 +1,6 @@
 use mathlib.Core.Path.{◌∙◌}
 use native.Mathlib.Omega.{arith}
 use lib.Seq.{drop-drop}
-use borrow.Author.Tests.{not-false, not-true}
 use Rattle.reading.proofs.Laws.Tallies.{read_none, read_dates, read_times}
 use Rattle.reading.proofs.duration.read_duration.Goals as goal
 

@@ -1,11 +1,8 @@
 use mathlib.Core.Path.{◌≡◌, sym}
-use Prim.Native.Nat.{◌-◌, ◌≤◌}
 use native.Mathlib.Numerals.{add-one}
 use native.Mathlib.Omega.{arith}
-use lib.ListN.{drop}
 use Rattle.reading.proofs.Laws.Places.{digit_at, digit_end, digit_high, digit_low, digits-small, digits-stop}
 use Rattle.texts.specs.Digits.{get_digits}
-use Rattle.octets.specs.Found.{found}
 use borrow.Author.Rules.{rules}
 use Rattle.reading.proofs.text_fields.digits.Goals as goal
 

@@ -1,9 +1,6 @@
-use mathlib.Core.Path.{◌≡◌, sym}
+use mathlib.Core.Path.{◌≡◌}
 use Prim.Native.Nat.{◌-◌, ◌≤◌}
-use native.Mathlib.Numerals.{add-one}
-use native.Mathlib.Omega.{arith}
 use lib.ListN.{drop}
-use Rattle.reading.proofs.Laws.Places.{digit_at, digit_end, digit_high, digit_low, digits-small, digits-stop}
 use Rattle.texts.specs.Digits.{get_digits}
 use Rattle.octets.specs.Found.{found}
 use Rattle.reading.proofs.text_fields.digits.Given as goal

@@ -1,9 +1,5 @@
-use mathlib.Core.Path.{◌≡◌}
-use Prim.Native.Nat.{◌+◌, ◌-◌, ◌≤◌}
 use native.Mathlib.Omega.{arith}
-use lib.ListN.{drop, length}
 use Rattle.reading.proofs.Laws.Places.{leading_at, leading_end, leading_high, leading_low}
-use Rattle.texts.specs.Digits.{leading}
 use Rattle.reading.proofs.text_fields.leading_digits.Goals as goal
 
 pub returns-then-c-lt48 : goal.returns-then-c-lt48

@@ -1,8 +1,6 @@
 use mathlib.Core.Path.{◌≡◌}
 use Prim.Native.Nat.{◌+◌, ◌-◌, ◌≤◌}
-use native.Mathlib.Omega.{arith}
 use lib.ListN.{drop, length}
-use Rattle.reading.proofs.Laws.Places.{leading_at, leading_end, leading_high, leading_low}
 use Rattle.texts.specs.Digits.{leading}
 use Rattle.reading.proofs.text_fields.leading_digits.Given as goal
 

@@ -2,7 +2,6 @@ use mathlib.Core.Path.{◌∙◌}
 use native.Mathlib.Omega.{arith}
 use lib.ListN.{drop_of_length-le}
 use lib.Seq.{drop-drop}
-use borrow.Author.Tests.{not-false, not-true}
 use Rattle.octets.proofs.Laws.Found.{told}
 use Rattle.reading.proofs.Laws.Places.{drop_at}
 use Rattle.reading.specs.Steps.{seen_date, seen_time}

@@ -1,9 +1,5 @@
-use mathlib.Core.Path.{◌≡◌, refl, sym, ◌∙◌}
-use Prim.Native.Nat.{◌-◌}
+use mathlib.Core.Path.{refl, sym, ◌∙◌}
 use native.Mathlib.Omega.{arith}
-use lib.ListN.{drop, take}
-use borrow.Author.Tests.{not-false, not-true}
-use Rattle.type_texts.specs.TypeTexts.{distinct}
 use Rattle.type_texts.proofs.Laws.Walks.{distinct-end, distinct_hit, distinct_miss}
 use Rattle.settings.proofs.joining.all_differ.Goals as goal
 

@@ -1,10 +1,7 @@
-use mathlib.Core.Path.{◌≡◌, refl, sym, ◌∙◌}
+use mathlib.Core.Path.{◌≡◌}
 use Prim.Native.Nat.{◌-◌}
-use native.Mathlib.Omega.{arith}
 use lib.ListN.{drop, take}
-use borrow.Author.Tests.{not-false, not-true}
 use Rattle.type_texts.specs.TypeTexts.{distinct}
-use Rattle.type_texts.proofs.Laws.Walks.{distinct-end, distinct_hit, distinct_miss}
 use Rattle.settings.proofs.joining.all_differ.Given as goal
 
 abbrev pub invariant-loop-i : goal.invariant-loop-i

@@ -1,9 +1,6 @@
-use mathlib.Core.Path.{◌≡◌, refl, sym, ◌∙◌}
-use Prim.Native.Nat.{◌-◌}
+use mathlib.Core.Path.{refl, sym, ◌∙◌}
 use native.Mathlib.Omega.{arith}
-use lib.ListN.{drop, take}
-use borrow.Author.Tests.{not-false, not-true}
-use Rattle.type_texts.specs.TypeTexts.{all_of, usable}
+use Rattle.type_texts.specs.TypeTexts.{usable}
 use Rattle.type_texts.proofs.Laws.Walks.{all_end, all_hit, all_miss}
 use Rattle.settings.proofs.joining.all_usable.Goals as goal
 

@@ -1,10 +1,8 @@
-use mathlib.Core.Path.{◌≡◌, refl, ap, sym, ◌∙◌}
+use mathlib.Core.Path.{◌≡◌}
 use mathlib.Core.Bool.{not}
 use Prim.Native.Nat.{◌-◌}
-use native.Mathlib.Omega.{arith}
 use lib.ListN.{drop, take}
 use Rattle.type_texts.specs.TypeTexts.{all_of, equal_lists}
-use Rattle.type_texts.proofs.Laws.Walks.{all_end, all_hit, all_miss}
 use Rattle.settings.proofs.joining.differs.Given as goal
 
 abbrev pub invariant-loop-i : goal.invariant-loop-i

@@ -1,10 +1,7 @@
-use mathlib.Core.Path.{◌≡◌, refl, sym, ◌∙◌}
+use mathlib.Core.Path.{◌≡◌}
 use Prim.Native.Nat.{◌-◌}
-use native.Mathlib.Omega.{arith}
 use lib.ListN.{drop, take}
-use borrow.Author.Tests.{not-false, not-true}
 use Rattle.type_texts.specs.TypeTexts.{all_of, one_row}
-use Rattle.type_texts.proofs.Laws.Walks.{all_end, all_hit, all_miss}
 use Rattle.settings.proofs.joining.in_row.Given as goal
 
 abbrev pub invariant-loop-i : goal.invariant-loop-i

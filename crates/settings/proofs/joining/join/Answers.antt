@@ -1,7 +1,6 @@
 use mathlib.Core.Path.{ap, sym, ◌∙◌}
 use mathlib.Core.Bool.{true, false}
 use native.Mathlib.Omega.{arith}
-use borrow.Author.Tests.{not-false, not-true}
 use Rattle.types.specs.AnyTypes.{found_type}
 use Rattle.type_texts.proofs.Laws.Walks.{none_joined, row-joined, twice_joined, unusable_joined}
 use Rattle.settings.proofs.joining.join.Goals as goal

@@ -1,6 +1,5 @@
 use mathlib.Core.Path.{◌∙◌, sym}
 use mathlib.Core.Bool.{true}
-use borrow.Author.Tests.{not-false, not-true}
 use Rattle.type_texts.specs.TypeTexts.{list_type}
 use Rattle.type_texts.proofs.Laws.TypeTexts.{duration-found}
 use Rattle.settings.proofs.joining.limited_list.Goals as goal

@@ -1,10 +1,5 @@
-use mathlib.Core.Path.{◌≡◌, refl, sym, ◌∙◌}
-use mathlib.Core.List.{map}
-use Prim.Native.Nat.{◌-◌}
+use mathlib.Core.Path.{refl, sym, ◌∙◌}
 use native.Mathlib.Omega.{arith}
-use lib.ListN.{drop, take}
-use Rattle.lists.specs.Lists.{year_in}
-use Rattle.type_texts.specs.TypeTexts.{member}
 use Rattle.type_texts.proofs.Laws.Walks.{named_end, named_hit, named_miss}
 use Rattle.settings.proofs.joining.named_in.Goals as goal
 

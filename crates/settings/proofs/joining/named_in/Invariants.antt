@@ -1,11 +1,9 @@
-use mathlib.Core.Path.{◌≡◌, refl, sym, ◌∙◌}
+use mathlib.Core.Path.{◌≡◌}
 use mathlib.Core.List.{map}
 use Prim.Native.Nat.{◌-◌}
-use native.Mathlib.Omega.{arith}
 use lib.ListN.{drop, take}
 use Rattle.lists.specs.Lists.{year_in}
 use Rattle.type_texts.specs.TypeTexts.{member}
-use Rattle.type_texts.proofs.Laws.Walks.{named_end, named_hit, named_miss}
 use Rattle.settings.proofs.joining.named_in.Given as goal
 
 abbrev pub invariant-loop-i : goal.invariant-loop-i

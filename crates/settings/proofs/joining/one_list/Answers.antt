@@ -1,5 +1,4 @@
 use mathlib.Core.Path.{sym, ◌∙◌}
-use borrow.Author.Tests.{not-false, not-true}
 use Rattle.type_texts.specs.TypeTexts.{all_of, distinct, joined}
 use Rattle.type_texts.proofs.Laws.TypeTexts.{no_second}
 use Rattle.settings.proofs.joining.one_list.Goals as goal

@@ -1,5 +1,4 @@
 use mathlib.Core.Path.{sym, ◌∙◌}
-use borrow.Author.Tests.{not-false, not-true}
 use Rattle.type_texts.specs.TypeTexts.{one_row}
 use Rattle.settings.proofs.joining.one_row.Goals as goal
 

@@ -1,12 +1,7 @@
-use mathlib.Core.Path.{◌≡◌, refl, sym, ◌∙◌}
-use mathlib.Core.List.{◌++◌}
-use Prim.Native.Nat.{◌+◌, ◌-◌, ◌≤◌}
+use mathlib.Core.Path.{refl, sym, ◌∙◌}
 use native.Mathlib.Omega.{arith}
-use lib.ListN.{length, drop}
 use Rattle.octets.proofs.Laws.Pieces.{found_within}
-use Rattle.lists.specs.Several.{Sound, kept}
 use Rattle.lists.proofs.Laws.Several.{kept_more, none_sound}
-use Rattle.type_texts.specs.TypeTexts.{lists_of}
 use Rattle.type_texts.proofs.Laws.TypeTexts.{all_kept, last_list, next_list, too_many}
 use Rattle.settings.proofs.type_text.read_all.Goals as goal
 
@@ -15,9 +10,9 @@ loop-from-init c = (omega arith, none_sound, refl)
 
 pub returns-then-lists-ge-MOST : goal.returns-then-lists-ge-MOST
 returns-then-lists-ge-MOST c = let inv = c.loop-from.invariant in record {
-      result_value = sym (too_many _ _ _ inv.1 c.if-lists-ge-MOST.true inv.2);
-      sound = none_sound;
-    }
+  result_value = sym (too_many _ _ _ inv.1 c.if-lists-ge-MOST.true inv.2);
+  sound = none_sound;
+}
 
 pub slice_bounds-read_list-end : goal.slice_bounds-read_list-end
 slice_bounds-read_list-end c = found_within _ _ _ _ c.find-end.ensures c.loop-from.invariant.0

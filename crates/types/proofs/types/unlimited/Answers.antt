@@ -1,5 +1,4 @@
 use mathlib.Core.Path.{◌∙◌, sym}
-use borrow.Author.Tests.{not-true, not-false}
 use Rattle.types.proofs.types.unlimited.Goals as goal
 
 pub returns-then-not-has_place : goal.returns-then-not-has_place

@@ -8,9 +8,9 @@ use Rattle.unpacking.proofs.dates.date.Goals as goal
 pub returns-in_default : goal.returns-in_default
 unfolding read_date
 returns-in_default c = record {
-      result_value = sym (step (seen_integer _) _ _ _ c.year.ensures.result_value c.in_default.is);
-      result_bound = omega arith;
-    }
+  result_value = sym (step (seen_integer _) _ _ _ c.year.ensures.result_value c.in_default.is);
+  result_bound = omega arith;
+}
 
 pub day-requires : goal.day-requires
 day-requires c = omega (arith, ap integer_place c.in-Got.is)
@@ -18,10 +18,10 @@ day-requires c = omega (arith, ap integer_place c.in-Got.is)
 pub returns : goal.returns
 unfolding read_date
 returns c = let year = c.year in record {
-      result_value = (rw c.year_at.ensures at c.day.ensures.result_value) ∙ sym (step (seen_integer _) _ _ _ year.ensures.result_value c.in-Got.is);
-      result_bound = omega (
-        arith,
-        ap
-            integer_place c.in-Got.is,
-      );
-    }
+  result_value = (rw c.year_at.ensures at c.day.ensures.result_value) ∙ sym (step (seen_integer _) _ _ _ year.ensures.result_value c.in-Got.is);
+  result_bound = omega (
+    arith,
+    ap
+        integer_place c.in-Got.is,
+  );
+}

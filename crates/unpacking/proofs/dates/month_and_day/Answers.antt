@@ -10,33 +10,33 @@ use Rattle.unpacking.proofs.dates.month_and_day.Goals as goal
 pub ranged-requires : goal.ranged-requires
 unfolding width binary_digits
 ranged-requires c = record {
-      count_bound = omega arith;
-      le_count = omega arith;
-      count_value = refl;
-    }
+  count_bound = omega arith;
+  le_count = omega arith;
+  count_value = refl;
+}
 
 pub returns-in_default : goal.returns-in_default
 unfolding read_day
 returns-in_default c = record {
-      result_value = sym (step (seen _) (a_ranged 12) _ _ c.ranged.ensures.result_value c.in_default.is);
-      result_bound = omega arith;
-    }
+  result_value = sym (step (seen _) (a_ranged 12) _ _ c.ranged.ensures.result_value c.in_default.is);
+  result_bound = omega arith;
+}
 
 pub ranged-requires-2 : goal.ranged-requires-2
 unfolding width binary_digits
 ranged-requires-2 c = record {
-      count_bound = omega (arith, ap place c.in-Got.is);
-      le_count = omega arith;
-      count_value = refl;
-    }
+  count_bound = omega (arith, ap place c.in-Got.is);
+  le_count = omega arith;
+  count_value = refl;
+}
 
 pub returns-in_default-ranged : goal.returns-in_default-ranged
 unfolding read_day
 returns-in_default-ranged c = let ranged = c.ranged in record {
-      result_value = sym (step (seen _) (a_ranged 12) _ _ ranged.ensures.result_value c.in-Got.is ∙ step (seen _) (a_ranged 31) _ _ c.ranged-2.ensures.result_value
-          c.in_default-ranged.is);
-      result_bound = omega arith;
-    }
+  result_value = sym (step (seen _) (a_ranged 12) _ _ ranged.ensures.result_value c.in-Got.is ∙ step (seen _) (a_ranged 31) _ _ c.ranged-2.ensures.result_value
+      c.in_default-ranged.is);
+  result_bound = omega arith;
+}
 
 pub overflow_add-result : goal.overflow_add-result
 overflow_add-result c = omega (arith, ap number_read c.in-Got.is)

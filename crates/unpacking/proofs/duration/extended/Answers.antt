@@ -10,24 +10,24 @@ use Rattle.unpacking.proofs.duration.extended.Goals as goal
 
 pub returns-in_default : goal.returns-in_default
 returns-in_default c = record {
-      result_value = sym (extended-short c.args.lowest c.args.range c.args.width.count c.requires.count_value _
-          (told (seen _) c.field.ensures.result_value c.in_default.is) c.requires.count_bound_2);
-      result_bound = omega arith;
-    }
+  result_value = sym (extended-short c.args.lowest c.args.range c.args.width.count c.requires.count_value _
+      (told (seen _) c.field.ensures.result_value c.in_default.is) c.requires.count_bound_2);
+  result_bound = omega arith;
+}
 
 pub returns-then-number-range : goal.returns-then-number-range
 returns-then-number-range c = record {
-      result_value = sym (extended-inside c.args.lowest c.args.range c.args.width.count c.requires.count_value _
-          (told (seen _) c.field.ensures.result_value c.in-Got.is) c.if-number-range.true c.requires.range_bound);
-      result_bound = omega (arith, ap place c.in-Got.is);
-    }
+  result_value = sym (extended-inside c.args.lowest c.args.range c.args.width.count c.requires.count_value _
+      (told (seen _) c.field.ensures.result_value c.in-Got.is) c.if-number-range.true c.requires.range_bound);
+  result_bound = omega (arith, ap place c.in-Got.is);
+}
 
 pub returns-then-number-power : goal.returns-then-number-power
 returns-then-number-power c = let k = rw c.power.ensures at c.if-number-power.true in record {
-      result_value = sym (extended_above c.args.lowest c.args.range c.args.width.count c.requires.count_value _
-          (told (seen _) c.field.ensures.result_value c.in-Got.is) c.if-number-range.false k);
-      result_bound = omega arith;
-    }
+  result_value = sym (extended_above c.args.lowest c.args.range c.args.width.count c.requires.count_value _
+      (told (seen _) c.field.ensures.result_value c.in-Got.is) c.if-number-range.false k);
+  result_bound = omega arith;
+}
 
 pub returns : goal.returns
 returns c = let k = rw c.power.ensures at c.if-number-power.false in

@@ -1,19 +1,12 @@
 use mathlib.Core.Path.{◌≡◌, refl, sym, ap, ◌∙◌}
 use mathlib.Core.Bool.{false≢true}
-use mathlib.Core.List.{List, ◌++◌}
-use Prim.Native.Nat.{ℕ, ◌+◌, ◌-◌, ◌*◌, ◌≤◌, ◌<◌}
+use Prim.Native.Nat.{◌<◌}
 use native.Mathlib.Omega.{arith}
-use lib.ListN.{length, length-set, take, drop, replicate}
-use Rattle.octets.specs.Found.{found, onward}
+use lib.ListN.{length-set, replicate}
 use Rattle.octets.proofs.Laws.Found.{told}
-use Rattle.answers.specs.declared.counts.Bits.{Bits}
-use Rattle.fields.specs.Readings.{run}
-use Rattle.durations.specs.Parts.{numbers as numbersIn}
-use Rattle.durations.specs.Fields.{roots}
-use Rattle.durations.specs.Readings.{read_numbers}
-use Rattle.unpacking.specs.Durations.{after_presences, bits_in}
-use Rattle.unpacking.specs.Steps.{place as place_of, rest, seen}
-use Rattle.unpacking.proofs.Laws.Components.{by_bit, numbers-end, numbers_next, numbers_none, numbers_start, parts_to}
+use Rattle.unpacking.specs.Durations.{bits_in}
+use Rattle.unpacking.specs.Steps.{place as place_of, seen}
+use Rattle.unpacking.proofs.Laws.Components.{by_bit, numbers-end, numbers_next, numbers_none, numbers_start}
 use Rattle.unpacking.proofs.Laws.Components.{values-end, values_next, values_start}
 use Rattle.unpacking.proofs.duration.numbers.Goals as goal
 
@@ -34,9 +27,9 @@ overflow_shr-present c = omega arith
 
 pub number-requires : goal.number-requires
 number-requires c = let l = c.loop-place in record {
-      count_bound = omega (arith, l.invariant.near);
-      place_bound = omega arith;
-    }
+  count_bound = omega (arith, l.invariant.near);
+  place_bound = omega arith;
+}
 
 pub returns-in_default : goal.returns-in_default
 returns-in_default c =

@@ -15,12 +15,12 @@ returns-then-present-eq0 c = ap of_found (sym (tail_none _ _ c.if-present-eq0.tr
 pub extended-requires : goal.extended-requires
 unfolding width binary_digits
 extended-requires c = record {
-      count_bound = omega arith;
-      lowest_bound = omega arith;
-      count_bound_2 = omega arith;
-      count_value = refl;
-      range_bound = omega arith;
-    }
+  count_bound = omega arith;
+  lowest_bound = omega arith;
+  count_bound_2 = omega arith;
+  count_value = refl;
+  range_bound = omega arith;
+}
 
 pub returns-in_default : goal.returns-in_default
 returns-in_default c =
@@ -41,12 +41,12 @@ returns-then-digits-gt9 c =
 pub extended-requires-2 : goal.extended-requires-2
 unfolding width binary_digits
 extended-requires-2 c = record {
-      count_bound = omega (arith, ap place c.in-Got.is);
-      lowest_bound = omega arith;
-      count_bound_2 = omega arith;
-      count_value = refl;
-      range_bound = omega arith;
-    }
+  count_bound = omega (arith, ap place c.in-Got.is);
+  lowest_bound = omega arith;
+  count_bound_2 = omega arith;
+  count_value = refl;
+  range_bound = omega arith;
+}
 
 pub returns-in_default-extended : goal.returns-in_default-extended
 returns-in_default-extended c =

@@ -45,9 +45,9 @@ returns-then-not-well_made c =
 
 pub last_place-requires : goal.last_place-requires
 last_place-requires c = let o = c.wide-bits.ensures.upper_bound in record {
-      bits_bound = o;
-      bound = made_some _ o (sym c.well_made.ensures ∙ c.if-not-well_made.false);
-    }
+  bits_bound = o;
+  bound = made_some _ o (sym c.well_made.ensures ∙ c.if-not-well_made.false);
+}
 
 pub returns : goal.returns
 returns c =

@@ -27,7 +27,7 @@ value-is c =
     let from : ℕ = c.octets-with_first.result.count - 1 in
     let all : ℕ = c.octets-with_all.result.count in
     let first-is : (a.at.count + 1 ≤ 8 * c.octets-with_first.result.count) × (8 * c.octets-with_first.result.count < a.at.count + 1 + 8)
-        = carried _ c.octets-with_first.ensures in
+    = carried _ c.octets-with_first.ensures in
     let all-is : (a.at.count + a.width.count ≤ 8 * all) × (8 * all < a.at.count + a.width.count + 8) = carried _ c.octets-with_all.ensures in
     let f = filled_up _ c.octets-with_all.ensures c.filling-after.ensures in
     let first : from ≡ a.at.count / 8 = omega arith in

@@ -13,42 +13,42 @@ width_is : (c : Joined-length) → (1 ≤ c.in-Got.length) × (c.in-Got.length �
 width_is c =
     let count : Bits → ℕ = λ b. b.count in
     elim c.match-length.branch [
-      in-1 w ↦ omega (arith, ap count w.width-is)
-    | in-2 w ↦ omega (arith, ap count w.width-is)
-    | in-3 w ↦ omega (arith, ap count w.width-is)
-    | in-4 w ↦ omega (arith, ap count w.width-is)
+      | in-1 w ↦ omega (arith, ap count w.width-is)
+      | in-2 w ↦ omega (arith, ap count w.width-is)
+      | in-3 w ↦ omega (arith, ap count w.width-is)
+      | in-4 w ↦ omega (arith, ap count w.width-is)
     ]
 
 pub returns-in_default : goal.returns-in_default
 returns-in_default c = record {
-      result_value = rw (free_by _ (told (seen _) c.field.ensures.result_value c.in_default.is));
-      bound = omega arith;
-    }
+  result_value = rw (free_by _ (told (seen _) c.field.ensures.result_value c.in_default.is));
+  bound = omega arith;
+}
 
 pub returns-in_default-length : goal.returns-in_default-length
 returns-in_default-length c = let field = c.field in record {
-      result_value = rw (free_none _ (told (seen _) field.ensures.result_value c.in-Got.is) (λ l h. omega arith));
-      bound = omega arith;
-    }
+  result_value = rw (free_none _ (told (seen _) field.ensures.result_value c.in-Got.is) (λ l h. omega arith));
+  bound = omega arith;
+}
 
 pub field-requires-2 : goal.field-requires-2
 field-requires-2 c = record { count_bound = omega (arith, ap place c.in-Got.is, width_is (goal.at.field-requires-2 c).Joined-length); le_count = omega (arith, width_is (goal.at.field-requires-2 c).Joined-length) }
 
 pub returns-in_default-field : goal.returns-in_default-field
 returns-in_default-field c = let field = c.field in record {
-      result_value = rw (
-        free_some _ (told (seen _) field.ensures.result_value c.in-Got.is) _ (width_is ((goal.at.returns-in_default-field c).Joined-length)),
-        told (seen _) c.field-2.ensures.result_value
-            c.in_default-field.is,
-      );
-      bound = omega arith;
-    }
+  result_value = rw (
+    free_some _ (told (seen _) field.ensures.result_value c.in-Got.is) _ (width_is ((goal.at.returns-in_default-field c).Joined-length)),
+    told (seen _) c.field-2.ensures.result_value
+        c.in_default-field.is,
+  );
+  bound = omega arith;
+}
 
 pub signed-requires : goal.signed-requires
 signed-requires c = let w = width_is (goal.at.signed-requires c).Joined-length in record {
-      le_count = omega arith;
-      number_bound = rw (ap number_read c.in-Got-field.is) at c.field-2.ensures.result_bound.0;
-    }
+  le_count = omega arith;
+  number_bound = rw (ap number_read c.in-Got-field.is) at c.field-2.ensures.result_bound.0;
+}
 
 pub returns : goal.returns
 returns c = let w = width_is (goal.at.returns c).Joined-length in

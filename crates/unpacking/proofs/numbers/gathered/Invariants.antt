@@ -1,9 +1,6 @@
-use mathlib.Core.Path.{◌≡◌, ◌∙◌, ap}
-use Prim.Native.Nat.{ℕ, ◌+◌, ◌-◌, ◌*◌, ◌≤◌, ◌<◌}
-use native.Mathlib.Omega.{arith}
-use lib.ListN.{length}
+use mathlib.Core.Path.{◌≡◌}
+use Prim.Native.Nat.{◌-◌, ◌≤◌}
 use Rattle.unpacking.specs.Steps.{number_at}
-use Rattle.unpacking.proofs.Laws.Numbers.{number_one, number_more, number_small}
 use Rattle.unpacking.proofs.numbers.gathered.Given as goal
 
 abbrev pub invariant-loop-k : goal.invariant-loop-k

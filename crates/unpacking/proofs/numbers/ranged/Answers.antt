@@ -8,9 +8,9 @@ use Rattle.unpacking.proofs.numbers.ranged.Goals as goal
 
 pub returns-in_default : goal.returns-in_default
 returns-in_default c = let pre = c.requires in record {
-      result_value = rw (ranged_by _ _ _ pre.count_value (told (seen _) c.field.ensures.result_value c.in_default.is));
-      result_bound = omega arith;
-    }
+  result_value = rw (ranged_by _ _ _ pre.count_value (told (seen _) c.field.ensures.result_value c.in_default.is));
+  result_bound = omega arith;
+}
 
 pub returns-then-number-range : goal.returns-then-number-range
 returns-then-number-range c = let field = c.field in

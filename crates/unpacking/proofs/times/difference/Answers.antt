@@ -10,10 +10,10 @@ use Rattle.unpacking.proofs.times.difference.Goals as goal
 pub ranged-requires : goal.ranged-requires
 unfolding width binary_digits
 ranged-requires c = record {
-      count_bound = omega arith;
-      le_count = omega arith;
-      count_value = refl;
-    }
+  count_bound = omega arith;
+  le_count = omega arith;
+  count_value = refl;
+}
 
 pub returns-in_default : goal.returns-in_default
 unfolding read_zone
@@ -22,10 +22,10 @@ returns-in_default c = sym (step (seen _) (a_ranged 2) _ _ c.ranged.ensures.resu
 pub ranged-requires-2 : goal.ranged-requires-2
 unfolding width binary_digits
 ranged-requires-2 c = record {
-      count_bound = omega (arith, ap place c.in-Got.is);
-      le_count = omega arith;
-      count_value = refl;
-    }
+  count_bound = omega (arith, ap place c.in-Got.is);
+  le_count = omega arith;
+  count_value = refl;
+}
 
 pub returns-in_default-ranged : goal.returns-in_default-ranged
 unfolding read_zone

@@ -17,10 +17,10 @@ returns-then-present-eq0 c = rw c.if-present-eq0.true (sym (run-give _ _))
 pub ranged-requires : goal.ranged-requires
 unfolding width binary_digits
 ranged-requires c = record {
-      count_bound = omega arith;
-      le_count = omega arith;
-      count_value = refl;
-    }
+  count_bound = omega arith;
+  le_count = omega arith;
+  count_value = refl;
+}
 
 pub returns-in_default : goal.returns-in_default
 returns-in_default c =

@@ -1,5 +1,4 @@
 use mathlib.Core.Path.{◌∙◌, sym}
-use borrow.Author.Tests.{not-false, not-true}
 use Rattle.held_values.specs.Admission.{judged}
 use Rattle.values.proofs.admission.judge.Goals as goal
 

@@ -7,6 +7,6 @@ pub returns : goal.returns
 returns c =
     let e = c.date_exists.ensures in
     elim c.match-value.branch [
-      in-Date w ↦ rw w.in-Date.is (e ∙ ap exists_of w.date-is)
-    | in-DateTime w ↦ rw w.in-DateTime.is (e ∙ ap exists_of w.date-is)
+      | in-Date w ↦ rw w.in-Date.is (e ∙ ap exists_of w.date-is)
+      | in-DateTime w ↦ rw w.in-DateTime.is (e ∙ ap exists_of w.date-is)
     ]

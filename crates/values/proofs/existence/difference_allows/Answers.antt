@@ -1,6 +1,5 @@
 use mathlib.Core.Path.{◌∙◌, sym}
 use native.Mathlib.Omega.{arith}
-use borrow.Author.Tests.{not-false, not-true}
 use Rattle.texts.specs.declared.values.Zone.{Zone}
 use Rattle.held_values.proofs.Laws.Existence.{difference_range}
 use Rattle.held_values.proofs.Laws.Leaps.{at_60, no_leap}
@@ -20,10 +19,10 @@ returns-then-seconds-ne60 c =
 
 pub less_difference-requires : goal.less_difference-requires
 less_difference-requires c = let r = difference_range _ (sym c.difference_exists.ensures ∙ c.if-not-difference_exists.false) in record {
-      local_bound = rw c.minute_of.ensures (omega (arith, c.requires.hours_bound, c.requires.minutes_bound));
-      hours_bound = r.hours;
-      minutes_bound = r.minutes;
-    }
+  local_bound = rw c.minute_of.ensures (omega (arith, c.requires.hours_bound, c.requires.minutes_bound));
+  hours_bound = r.hours;
+  minutes_bound = r.minutes;
+}
 
 pub returns : goal.returns
 returns c =

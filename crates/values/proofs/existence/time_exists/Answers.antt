@@ -1,6 +1,5 @@
 use mathlib.Core.Path.{◌≡◌, ◌∙◌, sym}
 use mathlib.Core.Bool.{Bool, ◌&&◌}
-use borrow.Author.Tests.{not-true, not-false}
 use Rattle.texts.specs.declared.values.Time.{Time}
 use Rattle.held_values.specs.Existence.{exists_fraction, exists_leap, exists_time, exists_zone}
 use Rattle.held_values.proofs.Laws.Existence.{clock_range}
@@ -43,9 +42,9 @@ returns-then-not-fraction_exists c = simp (asked-2 (goal.at.returns-then-not-fra
 
 pub zone_allows-requires : goal.zone_allows-requires
 zone_allows-requires c = let r = clock_range _ _ _ _ (sym c.clock_exists.ensures ∙ c.if-not-clock_exists.false) in record {
-      hours_bound = r.0;
-      minutes_bound = r.1;
-    }
+  hours_bound = r.0;
+  minutes_bound = r.1;
+}
 
 pub returns : goal.returns
 returns c =

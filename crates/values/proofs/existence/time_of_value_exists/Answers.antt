@@ -7,6 +7,6 @@ pub returns : goal.returns
 returns c =
     let e = c.time_exists.ensures in
     elim c.match-value.branch [
-      in-Time w ↦ rw w.in-Time.is (e ∙ ap exists_time w.time-is)
-    | in-DateTime w ↦ rw w.in-DateTime.is (e ∙ ap exists_time w.time-is)
+      | in-Time w ↦ rw w.in-Time.is (e ∙ ap exists_time w.time-is)
+      | in-DateTime w ↦ rw w.in-DateTime.is (e ∙ ap exists_time w.time-is)
     ]

@@ -1,4 +1,3 @@
-use borrow.Author.Tests.{not-true, not-false}
 use Rattle.held_values.specs.Holding.{admits_date}
 use Rattle.values.proofs.holding.date_in.Goals as goal
 

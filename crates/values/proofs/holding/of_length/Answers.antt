@@ -1,4 +1,4 @@
-use borrow.Author.Tests.{le-leb, lt-leb, not-false, not-true}
+use borrow.Author.Tests.{le-leb, lt-leb}
 use Rattle.values.proofs.holding.of_length.Goals as goal
 
 pub returns-then-not-name : goal.returns-then-not-name

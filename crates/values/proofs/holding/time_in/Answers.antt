@@ -1,6 +1,5 @@
 use mathlib.Core.Path.{◌≡◌}
 use mathlib.Core.Bool.{true, false}
-use borrow.Author.Tests.{not-true, not-false}
 use Rattle.held_values.specs.Holding.{admits_time}
 use Rattle.values.proofs.holding.time_in.Goals as goal
 

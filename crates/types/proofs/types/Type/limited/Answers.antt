@@ -1,5 +1,4 @@
 use mathlib.Core.Path.{◌∙◌, sym}
-use borrow.Author.Tests.{not-true, not-false}
 use Rattle.types.specs.AnyTypes.{limited_to}
 use Rattle.types.proofs.types.Type.limited.Goals as goal
 

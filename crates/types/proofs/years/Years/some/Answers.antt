@@ -1,5 +1,3 @@
-use Rattle.types.proofs.years.some_plain.Reads as some-plain-reads
-use Rattle.types.proofs.years.some_signed.Reads as some-signed-reads
 use Rattle.types.proofs.years.Years.some.Goals as goal
 
 pub returns-in-Plain : goal.returns-in-Plain
