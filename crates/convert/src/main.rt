@@ -309,7 +309,7 @@ fn read_all(
 fn finish(rt: &(impl Print + Clock), line: &[u8], output: &mut [u8]) -> Result<(), Failure>
     requires { reply_capacity ≤ length output.old }
 {
-    if line.len() == 0 {
+    if line.is_empty() {
         return Ok(());
     }
     let end = reply(line, output);
