@@ -39,8 +39,9 @@ def expect(condition, what):
 
 
 def expect_run(run, octets, said):
-    """A run has replied to these octets, and said this on standard error."""
+    """A run has replied to these octets, and said this on standard error; its status is 1 where it said something, or else 0."""
     expect(run.stderr == said, f"says {run.stderr[:200]!r} and not {said!r}")
+    expect(run.returncode == (1 if said else 0), f"ends with {run.returncode} where it says {said!r}")
     expect(run.stdout == convert_lines.replies(octets), f"{len(run.stdout)} octets of replies to {len(octets)} octets are other ones")
 
 
@@ -108,14 +109,14 @@ def full_device_at_once(program):
 
 
 def closed_pipe(program):
+    """A pipe that nobody reads is a failed write, whether or not the program begins with SIGPIPE ignored."""
     reader, writer = os.pipe()
     os.close(reader)
-    done = run(program, LINE, stdout=writer)
-    expect(done.returncode == -signal.SIGPIPE, f"ends with {done.returncode} where nobody reads")
-    done = run(program, LINE, stdout=writer, restore_signals=False)
+    for restored in (True, False):
+        done = run(program, LINE, stdout=writer, restore_signals=restored)
+        expect(done.returncode == 1, f"ends with {done.returncode} where nobody reads")
+        expect(done.stderr == b"convert: standard output: Broken pipe\n", f"says {done.stderr!r} where nobody reads")
     os.close(writer)
-    said = b"convert: standard output: Broken pipe\n"
-    expect(done.stderr == said, f"says {done.stderr!r} where SIGPIPE is ignored")
 
 
 def closed_pipe_at_once(program):

@@ -5,7 +5,8 @@
 #![tactic(auto)]
 
 use calendar::{Astronomical, Date, Distance, Year};
-use libc::STDOUT_FILENO;
+use std::io;
+use std::io::{BufWriter, Write};
 
 const YEARS: [i32; 31] = [
     -2147483648,
@@ -62,15 +63,12 @@ fn date_at(form: Form, year: Year, index: u32) -> Date {
 }
 
 // Two numbers, as a line.
-fn print_pair(a: u64, b: u64) {
-    io::print_decimal(STDOUT_FILENO, a);
-    io::write_all(STDOUT_FILENO, b" ");
-    io::print_decimal(STDOUT_FILENO, b);
-    io::write_all(STDOUT_FILENO, b"\n");
+fn print_pair(out: &mut impl Write, a: u64, b: u64) -> io::Result<()> {
+    writeln!(out, "{a} {b}")
 }
 
 // How many dates of a form exist below an end of the indices, and their sum.
-fn print_form(form: Form, year: Year, end: u32) {
+fn print_form(out: &mut impl Write, form: Form, year: Year, end: u32) -> io::Result<()> {
     let mut count: u64 = 0;
     let mut sum: u64 = 0;
     for index in 0..end {
@@ -79,7 +77,7 @@ fn print_form(form: Form, year: Year, end: u32) {
             sum += index as u64;
         }
     }
-    print_pair(count, sum);
+    print_pair(out, count, sum)
 }
 
 // The year turned back into its astronomical number and made again.
@@ -91,25 +89,27 @@ fn made_again(year: Year) -> Year {
 }
 
 // The side of 0000 that a year lies on, and its distance.
-fn print_year(year: Year) {
+fn print_year(out: &mut impl Write, year: Year) -> io::Result<()> {
     match year.distance() {
-        Distance::Since(years) => print_pair(0, years),
-        Distance::Before(years) => print_pair(1, years),
+        Distance::Since(years) => print_pair(out, 0, years),
+        Distance::Before(years) => print_pair(out, 1, years),
     }
 }
 
 // A year's lines.
-fn print_forms(year: Year) {
-    print_year(made_again(year));
-    print_form(Form::YM, year, 256);
-    print_form(Form::YMD, year, 65536);
-    print_form(Form::YD, year, 65536);
-    print_form(Form::YW, year, 256);
-    print_form(Form::YWD, year, 65536);
+fn print_forms(out: &mut impl Write, year: Year) -> io::Result<()> {
+    print_year(out, made_again(year))?;
+    print_form(out, Form::YM, year, 256)?;
+    print_form(out, Form::YMD, year, 65536)?;
+    print_form(out, Form::YD, year, 65536)?;
+    print_form(out, Form::YW, year, 256)?;
+    print_form(out, Form::YWD, year, 65536)
 }
 
-fn main() {
-    for at in 0..31 {
-        print_forms(Year::of(YEARS[at]));
+fn main(rt: HostRuntime) -> io::Result<()> {
+    let mut out = BufWriter::new(rt.alloc(), io::writer(&rt))?;
+    for year in YEARS {
+        print_forms(&mut out, Year::of(year))?;
     }
+    out.flush()
 }

@@ -4,12 +4,13 @@
 // `?` to any other line. Only so much is read as the buffer holds.
 #![tactic(auto)]
 
-ghost use Rattle.std.specs.Prelude.{◌≡◌, length};
+ghost use Rattle.std.specs.Prelude.{◌≡◌, ◌≤◌, length, IfOk};
 
 use calendar::Year;
-use libc::{STDIN_FILENO, STDOUT_FILENO};
 use octets::find;
 use settings::read_type;
+use std::io;
+use std::io::{BufWriter, Read, Write};
 use types::{AnyType, Limits, TypeFound, Window, same_rows};
 
 // Limits with a window of years, and whether hour 24 is allowed.
@@ -45,37 +46,33 @@ fn limits_of(octet: u8) -> Limits {
     }
 }
 
-// Writes octets out.
-fn write(octets: &[u8]) {
-    io::write_all(STDOUT_FILENO, &*octets);
+// The reply on two types.
+fn types_reply(out: &mut impl Write, a: AnyType, b: AnyType) -> io::Result<()> {
+    let found = if same_rows(a, b) { "same" } else { "other" };
+    writeln!(
+        out,
+        "0 {found} {} {}",
+        a.fraction_digits(),
+        b.fraction_digits()
+    )
 }
 
-// The reply on two types.
-fn types_reply(a: AnyType, b: AnyType) {
-    if same_rows(a, b) {
-        write(b"0 same ");
-    } else {
-        write(b"0 other ");
-    }
-    io::print_decimal(STDOUT_FILENO, a.fraction_digits() as u64);
-    write(b" ");
-    io::print_decimal(STDOUT_FILENO, b.fraction_digits() as u64);
-    write(b"\n");
+// The reply to what asks nothing.
+fn unasked_reply(out: &mut impl Write) -> io::Result<()> {
+    writeln!(out, "?")
 }
 
 // The reply on what is no type: lists that share no row, or what can't be read.
-fn number_reply(rowless: bool) {
-    if rowless {
-        return write(b"2\n");
-    }
-    write(b"1\n")
+fn number_reply(out: &mut impl Write, rowless: bool) -> io::Result<()> {
+    let number = if rowless { 2 } else { 1 };
+    writeln!(out, "{number}")
 }
 
 // The reply on what was found to be no type.
-fn refusal_reply(found: TypeFound) {
+fn refusal_reply(out: &mut impl Write, found: TypeFound) -> io::Result<()> {
     match found {
-        TypeFound::NoType(rowless) => number_reply(rowless),
-        _ => write(b"?\n"),
+        TypeFound::NoType(rowless) => number_reply(out, rowless),
+        _ => unasked_reply(out),
     }
 }
 
@@ -105,57 +102,58 @@ fn type_of(found: TypeFound) -> AnyType {
 }
 
 // The reply on two types' texts with a semicolon between them, each under its limits.
-fn texts_reply(a: Limits, b: Limits, texts: &[u8]) {
-    let end = find(&*texts, 0, b';');
+fn texts_reply(out: &mut impl Write, a: Limits, b: Limits, texts: &[u8]) -> io::Result<()> {
+    let end = find(texts, 0, b';');
     if texts.len() <= end {
-        return write(b"?\n");
+        return unasked_reply(out);
     }
-    let first = read_type(&texts[0..end], a);
+    let first = read_type(&texts[..end], a);
     if !is_type(first) {
-        return refusal_reply(first);
+        return refusal_reply(out, first);
     }
     let second = read_type(&texts[end + 1..], b);
     if !is_type(second) {
-        return refusal_reply(second);
+        return refusal_reply(out, second);
     }
-    types_reply(type_of(first), type_of(second))
+    types_reply(out, type_of(first), type_of(second))
 }
 
 // The reply on two types' texts under the limits of two octets of the menu.
-fn limited_reply(a: u8, b: u8, texts: &[u8]) {
+fn limited_reply(out: &mut impl Write, a: u8, b: u8, texts: &[u8]) -> io::Result<()> {
     if !(on_menu(a) && on_menu(b)) {
-        return write(b"?\n");
+        return unasked_reply(out);
     }
-    texts_reply(limits_of(a), limits_of(b), &*texts)
+    texts_reply(out, limits_of(a), limits_of(b), texts)
 }
 
 // The reply to a line.
-fn reply(line: &[u8]) {
-    let end = find(&*line, 0, b';');
+fn reply(out: &mut impl Write, line: &[u8]) -> io::Result<()> {
+    let end = find(line, 0, b';');
     if line.len() <= end {
-        return write(b"?\n");
+        return unasked_reply(out);
     }
     if line[0] != b'=' {
-        return write(b"?\n");
+        return unasked_reply(out);
     }
     match end {
-        1 => limited_reply(b'0', b'0', &line[2..]),
-        3 => limited_reply(line[1], line[2], &line[4..]),
-        _ => write(b"?\n"),
+        1 => limited_reply(out, b'0', b'0', &line[2..]),
+        3 => limited_reply(out, line[1], line[2], &line[4..]),
+        _ => unasked_reply(out),
     }
 }
 
 // The replies to all lines of a text. The last line needs no newline.
-fn reply_all(text: &[u8]) {
+fn reply_all(out: &mut impl Write, text: &[u8]) -> io::Result<()> {
     let mut from = 0;
     while from < text.len() {
-        let end = find(&*text, from, b'\n');
+        let end = find(text, from, b'\n');
         if text.len() <= end {
-            return reply(&text[from..]);
+            return reply(out, &text[from..]);
         }
-        reply(&text[from..end]);
+        reply(out, &text[from..end])?;
         from = end + 1;
     }
+    Ok(())
 }
 
 // Room for all lines.
@@ -165,8 +163,25 @@ fn buffer() -> [u8; 262144]
     [0; 262144]
 }
 
-fn main() {
+// Reads until the room is full or the input ends: how many octets there are.
+fn read_full(input: &mut impl Read, room: &mut [u8]) -> io::Result<usize>
+    ensures { IfOk result (λ n. n ≤ length room.new) }
+{
+    let mut done = 0;
+    while done < room.len() {
+        let got = input.read(&mut room[done..])?;
+        if got == 0 {
+            break;
+        }
+        done += got;
+    }
+    Ok(done)
+}
+
+fn main(rt: HostRuntime) -> io::Result<()> {
     let mut input = buffer();
-    let n = io::read_full(STDIN_FILENO, &mut input);
-    reply_all(&input[..n]);
+    let n = read_full(&mut rt.reader(), &mut input)?;
+    let mut out = BufWriter::new(rt.alloc(), io::writer(&rt))?;
+    reply_all(&mut out, &input[..n])?;
+    out.flush()
 }
