@@ -45,7 +45,7 @@ OF_FUNCTION = re.compile(r"^proofs/(\S+)/(?:Answers|Invariants|Proof)\.antt$")
 RESTING = re.compile(r"(?:was|were) not checked")
 FOLLOWED = re.compile(r"^# code and proofs follow$", re.M)
 PART = re.compile(r"^# (\w+): refused at proofs/(\S+)(?: (\S+))?$", re.M)
-PAIR = re.compile(r"^file: (\S+)$|^old: (.*)\nnew:(?: (.*))?$", re.M)
+LINE = re.compile(r"^(file|old|new):(?: (.*))?$", re.M)
 
 
 def place_of(path):
@@ -108,15 +108,20 @@ def text_of_part(edit, name):
 
 def apply(edit, crate):
     """Edits a copy of a crate. Each text that is replaced stands there once."""
-    path = None
-    for file, old, new in PAIR.findall(edit):
-        if file:
-            path = crate / file
-            continue
-        text = path.read_text("utf-8")
-        if text.count(old) != 1:
-            raise ValueError(f"{path.relative_to(crate)} has {text.count(old)} times: {old}")
-        path.write_text(text.replace(old, new), "utf-8")
+    said, changed = {}, False
+    for word, text in LINE.findall(edit):
+        said[word] = text
+        if word == "file" and not (crate / text).is_file():
+            raise ValueError(f"there is no {text}")
+        if word == "new":
+            file, old = crate / said["file"], said.pop("old")
+            whole = file.read_text("utf-8")
+            if whole.count(old) != 1:
+                raise ValueError(f"{said['file']} has {whole.count(old)} times: {old}")
+            file.write_text(whole.replace(old, text), "utf-8")
+            changed = changed or old != text
+    if not changed:
+        raise ValueError("it changes nothing")
 
 
 def link(one, other):
