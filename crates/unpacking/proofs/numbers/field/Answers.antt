@@ -26,7 +26,9 @@ value-is c =
     let a = c.args in
     let from : ℕ = c.octets-with_first.result.count - 1 in
     let all : ℕ = c.octets-with_all.result.count in
-    let k = counts c.before.before.before.before.before.before.before.before in
+    let first-is : (a.at.count + 1 ≤ 8 * c.octets-with_first.result.count) × (8 * c.octets-with_first.result.count < a.at.count + 1 + 8)
+        = carried _ c.octets-with_first.ensures in
+    let all-is : (a.at.count + a.width.count ≤ 8 * all) × (8 * all < a.at.count + a.width.count + 8) = carried _ c.octets-with_all.ensures in
     let f = filled_up _ c.octets-with_all.ensures c.filling-after.ensures in
     let first : from ≡ a.at.count / 8 = omega arith in
     let last : a.at.count + a.width.count + c.filling-after.result.count ≡ 8 * (from + (all - from)) = omega arith in
@@ -47,7 +49,9 @@ pub overflow_sub-count : goal.overflow_sub-count
 overflow_sub-count c = omega (arith, counts (goal.at.overflow_sub-count c).After-octets-with_all)
 
 pub gathered-number-requires : goal.gathered-number-requires
-gathered-number-requires c = omega (arith, counts (goal.at.gathered-number-requires c).After-octets-with_all)
+gathered-number-requires c =
+    let k = counts (goal.at.gathered-number-requires c).After-octets-with_all in
+    record { le_count = omega arith; count_in_bounds = omega arith }
 
 pub overflow_shr-result : goal.overflow_shr-result
 overflow_shr-result c = omega (arith, filled_up _ c.octets-with_all.ensures c.filling-after.ensures)

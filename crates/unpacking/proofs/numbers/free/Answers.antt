@@ -1,4 +1,3 @@
-use mathlib.Core.Logic.{⊎_elim}
 use mathlib.Core.Path.{◌≡◌, ap}
 use Prim.Native.Nat.{ℕ, ◌*◌, ◌≤◌}
 use native.Mathlib.Omega.{arith}
@@ -7,16 +6,18 @@ use Rattle.answers.specs.declared.counts.Bits.{Bits}
 use Rattle.unpacking.proofs.Laws.Steps.{free_by, free_none, free_some}
 use Rattle.unpacking.specs.Steps.{number_read, place, seen}
 use Rattle.unpacking.proofs.numbers.free.Goals as goal
-use Rattle.unpacking.proofs.numbers.free.Goals.{Joined-length}
+use Rattle.unpacking.proofs.numbers.free.Goals.{Joined-length, in-1, in-2, in-3, in-4}
 
 -- the width is that of the length
 width_is : (c : Joined-length) → (1 ≤ c.in-Got.length) × (c.in-Got.length ≤ 4) × (c.match-length.width.count ≡ 8 * c.in-Got.length)
 width_is c =
     let count : Bits → ℕ = λ b. b.count in
-    ⊎_elim
-    (λ w. omega (arith, ap count w.1))
-    (⊎_elim (λ w. omega (arith, ap count w.1)) (⊎_elim (λ w. omega (arith, ap count w.1)) (λ w. omega (arith, ap count w.1))))
-    c.match-length.branch
+    elim c.match-length.branch [
+      in-1 w ↦ omega (arith, ap count w.width-is)
+    | in-2 w ↦ omega (arith, ap count w.width-is)
+    | in-3 w ↦ omega (arith, ap count w.width-is)
+    | in-4 w ↦ omega (arith, ap count w.width-is)
+    ]
 
 pub returns-in_default : goal.returns-in_default
 returns-in_default c = record {
@@ -31,7 +32,7 @@ returns-in_default-length c = let field = c.field in record {
     }
 
 pub field-requires-2 : goal.field-requires-2
-field-requires-2 c = omega (arith, ap place c.in-Got.is, width_is (goal.at.field-requires-2 c).Joined-length)
+field-requires-2 c = record { count_bound = omega (arith, ap place c.in-Got.is, width_is (goal.at.field-requires-2 c).Joined-length); le_count = omega (arith, width_is (goal.at.field-requires-2 c).Joined-length) }
 
 pub returns-in_default-field : goal.returns-in_default-field
 returns-in_default-field c = let field = c.field in record {

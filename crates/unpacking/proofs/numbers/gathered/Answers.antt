@@ -21,7 +21,8 @@ two_is c =
     let a = c.args in
     let h : a.from.count + 1 < length a.octets.now = omega arith in
     ap (λ (n : ℕ). c.wide-one.result * 256 + n) c.wide.ensures
-    ∙ number_more a.octets.now a.from.count 1 _ h (c.type_inv.octets (a.from.count + 1)).fits (one-is d)
+    ∙ number_more a.octets.now a.from.count 1 _ h (c.type_inv.octets (a.from.count + 1)).fits 
+        (c.wide-one.ensures ∙ number_one _ _ (omega arith) (c.type_inv.octets a.from.count).fits)
 
 pub returns-then-count-eq1 : goal.returns-then-count-eq1
 returns-then-count-eq1 c = rw c.if-count-eq1.true (one-is (goal.at.returns-then-count-eq1 c).After-wide-one)

@@ -8,14 +8,14 @@ use Rattle.unpacking.proofs.numbers.ranged.Goals as goal
 
 pub returns-in_default : goal.returns-in_default
 returns-in_default c = let pre = c.requires in record {
-      result_value = rw (ranged_by _ _ _ pre.1.1 (told (seen _) c.field.ensures.result_value c.in_default.is));
+      result_value = rw (ranged_by _ _ _ pre.count_value (told (seen _) c.field.ensures.result_value c.in_default.is));
       result_bound = omega arith;
     }
 
 pub returns-then-number-range : goal.returns-then-number-range
 returns-then-number-range c = let field = c.field in
     let pre = c.requires in record {
-      result_value = rw (ranged_by _ _ _ pre.1.1 (told (seen _) field.ensures.result_value c.in-Got.is), lt-ltb _ _ c.if-number-range.true);
+      result_value = rw (ranged_by _ _ _ pre.count_value (told (seen _) field.ensures.result_value c.in-Got.is), lt-ltb _ _ c.if-number-range.true);
       result_bound = omega (
         arith,
         ap
@@ -26,6 +26,6 @@ returns-then-number-range c = let field = c.field in
 pub returns : goal.returns
 returns c = let field = c.field in
     let pre = c.requires in record {
-      result_value = rw (ranged_by _ _ _ pre.1.1 (told (seen _) field.ensures.result_value c.in-Got.is), le-ltb _ _ c.if-number-range.false);
+      result_value = rw (ranged_by _ _ _ pre.count_value (told (seen _) field.ensures.result_value c.in-Got.is), le-ltb _ _ c.if-number-range.false);
       result_bound = omega arith;
     }
