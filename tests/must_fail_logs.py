@@ -157,15 +157,15 @@ class Copy:
         """What a check of a crate says with an edit, begun with what was proved without it; and where its functions end."""
         whole, crate = ROOT / "crates" / name, self.folder / "crates" / name
         copied(whole / "out/incremental", crate / "out/incremental", copy_function=link)
-        for part in PARTS:
-            copied(whole / part, crate / part)
-        apply(edit, crate)
-        there = lines_of(crate)
         how = {"stdin": subprocess.DEVNULL, "stdout": subprocess.PIPE, "stderr": subprocess.STDOUT, "errors": "replace"}
-        run = subprocess.run(["rt", "check", "--jobs", "1"], cwd=crate, check=False, **how)
-        for part in PARTS:
-            copied(whole / part, crate / part)
-        if run.returncode != 1 or "\nlogic=not-proved" not in run.stdout:
+        try:
+            apply(edit, crate)
+            there = lines_of(crate)
+            run = subprocess.run(["rt", "check", "--jobs", "1"], cwd=crate, check=False, **how)
+        finally:
+            for part in PARTS:
+                copied(whole / part, crate / part)
+        if run.returncode != 1 or not re.search(rf"^crate {name}: (?s:.*)^logic=not-proved", run.stdout, re.M):
             raise ValueError(f"the check ends in {run.returncode}: {run.stdout[-300:]}")
         return run.stdout, there
 
