@@ -1,4 +1,5 @@
 # make           the library, static and shared, and the programs, in build/
+# make build/libcodec.a build/libcalendar.a     each half of the library alone
 # make check     proves everything from nothing and runs every test
 # make install   into PREFIX, below DESTDIR where that is given
 # make clean     removes build/
@@ -21,37 +22,40 @@ C = $(CC) -std=c99 -Wall -Wextra $(CFLAGS) -Iinclude
 INSTALL ?= install
 
 HEADERS = include/anafzir.h include/anafzir_calendar.h
-RATTLE := crates.txt $(shell find crates -name '*.rt' -o -name '*.antt')
+RATTLE := crates.txt $(shell find crates -name out -prune -o -name '*.rt' -print -o -name '*.antt' -print)
 OBJECTS = build/codec.o build/calendar.o build/message.o
 SONAME = libanafzir.so.$(MAJOR)
 SHARED = libanafzir.so.$(VERSION)
 
 .PHONY: all check install clean
 .SILENT:
-# The archives of rt stay where they are.
+.DELETE_ON_ERROR:
+# The objects of the archives stay.
 .SECONDARY:
 # rt keeps its files in one folder.
 .NOTPARALLEL:
 
 all: build/libanafzir.a build/$(SHARED) build/anafzir build/anafzir-convert
 
-# What rt prints goes to standard error, where it is seen at once.
-target/staticlib/lib%.a: $(RATTLE)
+# What rt prints goes to standard error, where it is seen at once. A library's functions for C are those of the static library
+# NAME_c over it.
+build/codec.o build/calendar.o: build/%.o: $(RATTLE) | build
 	echo "make: proving and building the archive of $*" >&2
-	rt staticlib $* >&2
-	touch $@
+	cd crates/$*_c && rt lib >&2
+	ar p crates/$*_c/out/lib$*_c.a $*_c.o > $@
 
-target/bin/convert: $(RATTLE)
+build/libcodec.a build/libcalendar.a: build/lib%.a: build/%.o
+	rm -f $@
+	ar rcsD $@ $<
+
+# rt builds a program to run it: here on no lines.
+crates/convert/out/convert: $(RATTLE)
 	echo "make: proving and building the line program" >&2
-	rt check convert >&2
+	cd crates/convert && rt run < /dev/null >&2
 	touch $@
 
 build:
 	mkdir -p $@
-
-build/%.o: target/staticlib/lib%.a | build
-	cd build && ar x ../$< $*.o
-	touch $@
 
 build/message.o: c/message.c include/anafzir.h | build
 	$(C) -fPIC -c $< -o $@
@@ -68,7 +72,7 @@ build/$(SHARED): $(OBJECTS) c/libanafzir.map
 build/anafzir: c/anafzir.c include/anafzir.h build/libanafzir.a
 	$(C) $(LDFLAGS) $< build/libanafzir.a -o $@
 
-build/anafzir-convert: target/bin/convert | build
+build/anafzir-convert: crates/convert/out/convert | build
 	cp $< $@
 
 check:

@@ -1,7 +1,7 @@
 """Times `convert` on a million lines of each work beside `cat`, a plain copy of the same input, in one run, and prints the best
 of five rounds of each, and the ratio of their times.
 
-First build it: rt check convert
+First build it: make build/anafzir-convert
 """
 
 import subprocess
@@ -9,7 +9,7 @@ import tempfile
 import time
 from pathlib import Path
 
-CONVERT = Path(__file__).resolve().parent.parent / "target/bin/convert"
+CONVERT = Path(__file__).resolve().parent.parent / "build/anafzir-convert"
 COUNT = 1_000_000
 
 

@@ -9,8 +9,8 @@
  * is not looked at, and may be NULL. The room does not overlap the type or the input.
  *
  * Link with libanafzir (`pkg-config --cflags --libs anafzir` once it is installed), or with
- * libcodec.a, which `rt staticlib codec` writes to target/staticlib/ and which has the four
- * functions that encode and decode.
+ * libcodec.a, which `make build/libcodec.a` writes and which has the four functions that
+ * encode and decode.
  */
 #ifndef ANAFZIR_H
 #define ANAFZIR_H

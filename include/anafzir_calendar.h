@@ -4,8 +4,7 @@
  * holds for all of them, negative years and 0000 too. Each function takes any year and
  * any month number, always returns, keeps no state and touches no memory of the caller.
  *
- * Link with libanafzir, or with libcalendar.a alone, which `rt staticlib calendar` writes to
- * target/staticlib/.
+ * Link with libanafzir, or with libcalendar.a alone, which `make build/libcalendar.a` writes.
  */
 #ifndef ANAFZIR_CALENDAR_H
 #define ANAFZIR_CALENDAR_H

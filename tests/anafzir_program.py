@@ -739,7 +739,7 @@ CHECKS = (
 def prepare(words):
     """Puts the programs and the library into the folder."""
     program = Path(words[0] if words else ROOT / "build/anafzir").resolve()
-    converts = [program.parent / "anafzir-convert", ROOT / "build/anafzir-convert", ROOT / "target/bin/convert"]
+    converts = [program.parent / "anafzir-convert", ROOT / "build/anafzir-convert", ROOT / "crates/convert/out/convert"]
     convert = next((path for path in converts if path.exists()), None)
     if not program.exists() or convert is None:
         sys.exit(f"there is no {program}, or no anafzir-convert: make builds them")

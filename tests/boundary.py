@@ -20,7 +20,7 @@ def defined(crate):
 
 def imported(text, calendar):
     """The names that a file brings in from the calendar, as it calls them, or from elsewhere."""
-    uses = [names for module, names in USED.findall(text) if module.startswith("Rattle·calendar.") == calendar]
+    uses = [names for module, names in USED.findall(text) if module.startswith("Rattle.calendar.") == calendar]
     entries = [entry.strip() for names in uses for entry in names.split(",")]
     return {entry.split(" as ")[-1].strip() for entry in entries if entry}
 
@@ -53,16 +53,17 @@ def self_test():
     """The check finds what it is to find, and nothing else."""
     with tempfile.TemporaryDirectory() as folder:
         root = Path(folder)
-        write(root / "crates/calendar/specs/Years.antt", "unfoldable pub leapOf : ℤ → Bool\n")
+        write(root / "crates/calendar/specs/Years.antt", "unfoldable pub leap_of : ℤ → Bool\n")
         proofs = root / "crates/upper/proofs"
-        use = "use Rattle·calendar.specs.Years.{leapOf as leap}\n"
+        use = "use Rattle.calendar.specs.Years.{leap_of as leap}\n"
         write(proofs / "Bad.antt", use + "law : A\nunfolding own leap\nlaw = refl\n")
-        write(proofs / "Worse.antt", "law : A\nunfolding Y.leapOf\nlaw = refl\n")
+        write(proofs / "Worse.antt", "law : A\nunfolding Y.leap_of\nlaw = refl\n")
+        write(proofs / "f/Answers.antt", use + "pub returns : goal.returns\nunfolding leap\nreturns c = refl\n")
         write(proofs / "Checked.antt", use + "table : A\nunfolding leap\ntable = refl\n")
         write(proofs / "Good.antt", use + "law : leap ≡ leap\nunfolding own\nlaw = refl\n")
-        write(proofs / "Other.antt", "use Rattle·other.specs.A.{leapOf}\nlaw : A\nunfolding leapOf\nlaw = refl\n")
+        write(proofs / "Other.antt", "use Rattle.other.specs.A.{leap_of}\nlaw : A\nunfolding leap_of\nlaw = refl\n")
         found = [place.split(":")[0] for place in places(root)]
-        if found != ["crates/upper/proofs/Bad.antt", "crates/upper/proofs/Worse.antt"]:
+        if found != [f"crates/upper/proofs/{name}.antt" for name in ("Bad", "Worse", "f/Answers")]:
             sys.exit(f"boundary.py does not find what it should: {found}")
 
 

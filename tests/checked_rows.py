@@ -21,13 +21,13 @@ QUOTED = r'"((?:[^"\\]|\\")*)"'
 
 CALENDAR = ROOT / "crates/calendar/proofs/Laws/Checked.antt"
 YEAR = re.compile(r"^ +year \((\w+ \d+)\) (true|false) (\d+) (\d+) (\d+) ∷", re.M)
-DATE = re.compile(r"^ +date \(Date\.(\w+) \(yearAt \((\w+ \d+)\)\)((?: \d+)*)\) (true|false) ∷", re.M)
+DATE = re.compile(r"^ +date \(Date\.(\w+) \(year_at \((\w+ \d+)\)\)((?: \d+)*)\) (true|false) ∷", re.M)
 
 SHOWN_TEXTS = ROOT / "crates/texts/proofs/Laws/Checked.antt"
 SHOWN = re.compile(r'^ +shown (\(.*\)) "([^"]*)" refl refl ∷', re.M)
 SPELLED = re.compile(r'^ +spelled (\(.*\)) "([^"]*)" \(spelling (true|false) (true|false)\) refl ∷', re.M)
 NOT_OF_FORM = re.compile(rf"^ +none DateForm\.(\w+) {QUOTED} refl ∷", re.M)
-DATE_VALUE = re.compile(r"Date\.(\w+) \(yearAt \((\w+ \d+)\)\)((?: \d+)*)")
+DATE_VALUE = re.compile(r"Date\.(\w+) \(year_at \((\w+ \d+)\)\)((?: \d+)*)")
 TIME_VALUE = re.compile(
     r"time \(Clock\.(\w+)((?: \d+)+)\) (\d+) (\d+) \(?(?:Zone\.([LZ])|difference (true|false) (\d+) (\d+))"
 )
@@ -42,11 +42,11 @@ PAIR = re.compile(r'^ +pair "([^"]*)"\s+"([^"]*)" (true|false) ∷', re.M)
 LIMITED = re.compile(r'^ +limited "([^"]*)" (\w+) "([^"]*)" (\w+) (true|false) ∷', re.M)
 COUNT = re.compile(r'^ +count "([^"]*)" (\d) ∷', re.M)
 LIMITS = {
-    "noLimits": settings.NO_LIMITS,
+    "no_limits": settings.NO_LIMITS,
     "from2000": settings.Limits((2000, 2099), False),
-    "noYears": settings.Limits((2001, 2000), False),
-    "noHour24": settings.Limits(None, True),
-    "bothLimits": settings.Limits((2000, 2099), True),
+    "no_years": settings.Limits((2001, 2000), False),
+    "no_hour24": settings.Limits(None, True),
+    "both_limits": settings.Limits((2000, 2099), True),
     "early": settings.Limits((-44, -1), False),
     "from1500": settings.Limits((1500, 1600), False),
 }
@@ -58,7 +58,7 @@ UNDER = re.compile(r'^ +under "([^"]*)" (\w+) "([^"]*)" (\d) "([^"]*)" ∷', re.
 SETTINGS = ROOT / "crates/types/proofs/Laws/YearRanges.antt"
 SETTING = re.compile(r"^ +year YearSetting\.(\w+) \((\w+ \d+)\) (true|false) ∷", re.M)
 
-A_DATE = r"\(Date\.(\w+) \(yearAt \((\w+ \d+)\)\)((?: \d+)*)\)"
+A_DATE = r"\(Date\.(\w+) \(year_at \((\w+ \d+)\)\)((?: \d+)*)\)"
 A_TIME = r"\(Clock\.(\w+)((?: \d+)+)\) (\d+) (\d+) \(?(Zone\.\w+|(?:ahead|behind) \d+ \d+)\)?"
 
 TIMES = ROOT / "crates/held_values/proofs/Laws/CheckedExistence.antt"
@@ -67,8 +67,8 @@ TIME_THERE = re.compile(rf"^ +time {A_TIME} (true|false) ∷", re.M)
 FIELDS = ROOT / "crates/fields/proofs/Laws/Checked.antt"
 RANGED = re.compile(r'^ +ranged (\d+) (\d+) (\d+) "(\w+)" ∷', re.M)
 INTEGER = re.compile(r'^ +(integer|longer) \((\w+ \d+)\) "(\w+)" ∷', re.M)
-NO_RANGED = re.compile(r'^ +noRanged (\d+) "(\w*)" ∷', re.M)
-NO_INTEGER = re.compile(r'^ +noInteger "(\w*)" ∷', re.M)
+NO_RANGED = re.compile(r'^ +no_ranged (\d+) "(\w*)" ∷', re.M)
+NO_INTEGER = re.compile(r'^ +no_integer "(\w*)" ∷', re.M)
 ALL_FIELDS = (
     *per.NEAR_YEARS, per.MONTH, per.DAY, per.ORDINAL_DAY, per.WEEK, per.WEEKDAY, *per.DAY_TIME_FIELDS,
     per.SHORT_FRACTION, per.DIFFERENCE_HOURS, per.DIFFERENCE_MINUTES,
@@ -76,12 +76,12 @@ ALL_FIELDS = (
 WIDTHS = {field.highest - field.lowest + 1: field.width for field in ALL_FIELDS}
 
 TABLE_2 = ROOT / "crates/rows/proofs/Laws/Checked.antt"
-DATED = re.compile(rf'^ +(date|looseDate) YearRow\.(\w+) {A_DATE} "(\w+)" (\d+) ∷', re.M)
-TIMED = re.compile(rf'^ +(time|looseTime) {A_TIME} "(\w+)" (\d+) ∷', re.M)
+DATED = re.compile(rf'^ +(date|loose_date) YearRow\.(\w+) {A_DATE} "(\w+)" (\d+) ∷', re.M)
+TIMED = re.compile(rf'^ +(time|loose_time) {A_TIME} "(\w+)" (\d+) ∷', re.M)
 BOTH = re.compile(rf'^ +both YearRow\.(\w+) {A_DATE} {A_TIME} "(\w+)" (\d+) ∷', re.M)
-TYPED = re.compile(rf'^ +typed(?:Date|Both) (\w+) {A_DATE}(?: {A_TIME})? "(\w+)" (\d+) ∷', re.M)
-NO_DATE = re.compile(r'^ +noDate YearRow\.(\w+) DateForm\.(\w+) "(\w*)" ∷', re.M)
-NO_TIME = re.compile(r'^ +noTime ClockForm\.(\w+) (\d+) ZoneForm\.(\w+) "(\w*)" ∷', re.M)
+TYPED = re.compile(rf'^ +typed_(?:date|both) (\w+) {A_DATE}(?: {A_TIME})? "(\w+)" (\d+) ∷', re.M)
+NO_DATE = re.compile(r'^ +no_date YearRow\.(\w+) DateForm\.(\w+) "(\w*)" ∷', re.M)
+NO_TIME = re.compile(r'^ +no_time ClockForm\.(\w+) (\d+) ZoneForm\.(\w+) "(\w*)" ∷', re.M)
 YEAR_ROWS = {"Year": frozenset({"Basic", "Proleptic"}), "AnyYear": frozenset({"Negative", "L5", "L6", "L7", "L8", "L9"})}
 YEAR_SETTINGS = {
     "basic": frozenset({"Basic"}), "proleptic": frozenset({"Proleptic"}), "plain": YEAR_ROWS["Year"],
@@ -95,15 +95,15 @@ NO_DURATION_TEXT = re.compile(rf"^ +refused {QUOTED} ∷", re.M)
 DURATION_OCTETS = re.compile(r'^ +octets "(\w*)" (\d) ∷', re.M)
 
 ELEMENTS = ROOT / "crates/der_elements/proofs/Laws/Checked.antt"
-DATE_ELEMENT = re.compile(rf'^ +(date|looseDate) Name\.(\w+) {A_DATE} "(\w+)" ∷', re.M)
-TIME_ELEMENT = re.compile(rf'^ +(time|looseTime) Name\.(\w+) {A_TIME} "(\w+)" ∷', re.M)
-BOTH_ELEMENT = re.compile(rf'^ +(both|looseBoth) Name\.(\w+) {A_DATE} {A_TIME} "(\w+)" ∷', re.M)
-NO_ELEMENT = re.compile(r'^ +no(Date|Time|Both|Duration) Name\.(\w+) "(\w*)" ∷', re.M)
-DURATION_ELEMENT = re.compile(r'^ +(duration|looseDuration) Name\.(\w+) \(of((?: \d+){10})\)\s+"(\w+)" ∷', re.M)
+DATE_ELEMENT = re.compile(rf'^ +(date|loose_date) Name\.(\w+) {A_DATE} "(\w+)" ∷', re.M)
+TIME_ELEMENT = re.compile(rf'^ +(time|loose_time) Name\.(\w+) {A_TIME} "(\w+)" ∷', re.M)
+BOTH_ELEMENT = re.compile(rf'^ +(both|loose_both) Name\.(\w+) {A_DATE} {A_TIME} "(\w+)" ∷', re.M)
+NO_ELEMENT = re.compile(r'^ +no_(date|time|both|duration) Name\.(\w+) "(\w*)" ∷', re.M)
+DURATION_ELEMENT = re.compile(r'^ +(duration|loose_duration) Name\.(\w+) \(of((?: \d+){10})\)\s+"(\w+)" ∷', re.M)
 NAMED = {"Listed": None, "Date": "DATE", "TimeOfDay": "TIME-OF-DAY", "DateTime": "DATE-TIME", "Duration": "DURATION"}
 ELEMENT_TYPES = {
-    "Date": settings.read_type(b"DATE"), "Time": settings.read_type(b"TIME-OF-DAY"), "Both": settings.read_type(b"DATE-TIME"),
-    "Duration": settings.read_type(b"DURATION"),
+    "date": settings.read_type(b"DATE"), "time": settings.read_type(b"TIME-OF-DAY"), "both": settings.read_type(b"DATE-TIME"),
+    "duration": settings.read_type(b"DURATION"),
 }
 
 CODINGS = ROOT / "crates/exchanges/proofs/Laws/Checked.antt"
@@ -111,11 +111,11 @@ VALUE = re.compile(r'^ +value "([^"]*)" "([^"]*)" (\d) "([^"]*)" (\d+) "([^"]*)"
 CODED = re.compile(r'^ +coded "([^"]*)" "([^"]*)" "([^"]*)" (\d+) ∷', re.M)
 CODED_UNDER = re.compile(r'^ +limited (\w+) "([^"]*)" "([^"]*)" (\d) "([^"]*)" (\d+) ∷', re.M)
 TAGGED = re.compile(r'^ +element "([^"]*)" "([^"]*)" (\d) "([^"]*)" "([^"]*)" ∷', re.M)
-CAUSE = re.compile(r'^ +(per|der)Cause "([^"]*)"\s+(\w+) "([^"]*)" (\d+) (\d) ∷', re.M)
+CAUSE = re.compile(r'^ +(per|der)_cause "([^"]*)"\s+(\w+) "([^"]*)" (\d+) (\d) ∷', re.M)
 CODING_LIMITS = {
-    "noLimits": settings.NO_LIMITS,
+    "no_limits": settings.NO_LIMITS,
     "from2000": settings.Limits((2000, 2010), False),
-    "noHour24": settings.Limits(None, True),
+    "no_hour24": settings.Limits(None, True),
 }
 CODERS = {"per": per, "der": der}
 
@@ -127,7 +127,7 @@ LEAP_CODINGS = ROOT / "crates/exchanges/proofs/Laws/CheckedLeaps.antt"
 YEAR_CODINGS = ROOT / "crates/exchanges/proofs/Laws/CheckedYears.antt"
 SPELLED_VALUE = re.compile(r'^ +value "([^"]*)"\s+"([^"]*)"\s+"([^"]*)"\s+"(\w+)" (\d+)\s+"(\w+)" ∷', re.M)
 REFUSES = re.compile(rf'^ +refuses "([^"]*)"\s+(\w+) {QUOTED} (\d) ∷', re.M)
-READ_UNDER = re.compile(r'^ +(per|der)Read "([^"]*)" "([^"]*)" "([^"]*)" (\d) "([^"]*)" (\d+) ∷', re.M)
+READ_UNDER = re.compile(r'^ +(per|der)_read "([^"]*)" "([^"]*)" "([^"]*)" (\d) "([^"]*)" (\d+) ∷', re.M)
 
 LINES = ROOT / "crates/line_replies/proofs/Laws/Checked.antt"
 LINE = re.compile(r'^ +line "([^"]*)" (\d+)\s+"([^"]*)" ∷', re.M)
@@ -239,7 +239,7 @@ def check_types():
     for text, limits, said in types:
         read = settings.read_type(text.encode(), LIMITS[limits])
         expect(TYPES, text, int(said), read if settings.is_refused(read) else 0)
-    pairs = [(first, "noLimits", second, "noLimits", said) for first, second, said in pairs]
+    pairs = [(first, "no_limits", second, "no_limits", said) for first, second, said in pairs]
     for first, upon, second, other, said in pairs + limited:
         read = settings.read_type(first.encode(), LIMITS[upon]), settings.read_type(second.encode(), LIMITS[other])
         expect(TYPES, f"{first} {upon} and {second} {other}", said, truth(settings.same_rows(*read)))
@@ -250,7 +250,7 @@ def check_types():
 def check_texts():
     """The number of each text under its type, and after 0 its canonical text."""
     found, limited = rows(TEXTS, TEXT, UNDER)
-    found = [(type_text, "noLimits", *rest) for type_text, *rest in found]
+    found = [(type_text, "no_limits", *rest) for type_text, *rest in found]
     for type_text, limits, text, number, canonical in found + limited:
         judged = texts.judge(type_text.encode(), LIMITS[limits], unquoted(text))
         expect(TEXTS, f"{type_text} {limits} {text}", (int(number), canonical.encode()), (judged[0], judged[1] or b""))
@@ -338,10 +338,10 @@ def check_rows():
     dated, timed, both, typed, no_date, no_time = rows(TABLE_2, DATED, TIMED, BOTH, TYPED, NO_DATE, NO_TIME)
     for kind, years, form, year, fields, *coding in dated:
         value = texts.Value(row_date(form, year, fields), None, None)
-        check_row(row_type(years, form), value, *coding, kind == "looseDate")
+        check_row(row_type(years, form), value, *coding, kind == "loose_date")
     for kind, clock, *time, octets, count in timed:
         value = texts.Value(None, row_time(*time), None)
-        check_row(row_type(None, None, clock, time[1], value.time.zone), value, octets, count, kind == "looseTime")
+        check_row(row_type(None, None, clock, time[1], value.time.zone), value, octets, count, kind == "loose_time")
     for years, form, year, fields, clock, *time, octets, count in both:
         value = texts.Value(row_date(form, year, fields), row_time(*time), None)
         check_row(row_type(years, form, clock, time[1], value.time.zone), value, octets, count, False)
@@ -397,7 +397,7 @@ def check_elements():
         value = texts.Value(row_date(form, year, fields), row_time(*time), None)
         check_element(kind, name, row_type(None, form, clock, time[1], value.time.zone), value, octets)
     for kind, name, fields, octets in lasting:
-        check_element(kind, name, ELEMENT_TYPES["Duration"], texts.Value(None, None, element_duration(fields)), octets)
+        check_element(kind, name, ELEMENT_TYPES["duration"], texts.Value(None, None, element_duration(fields)), octets)
     for form, name, octets in unreadable:
         t = ELEMENT_TYPES[form]._replace(name=NAMED[name])
         expect(ELEMENTS, f"{form} {name} {octets}", None, der.read_octets(t, bytes.fromhex(octets)))

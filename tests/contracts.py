@@ -11,18 +11,21 @@ ROOT = Path(__file__).resolve().parent.parent
 # `pub const fn` and `pub extern "C" fn` too, and not `pub(crate) fn`; then the signature, which has no brace
 PUBLIC = re.compile(r'\bpub\s+(?:[\w"]+\s+)*fn\s+(\w+)([^{]*?)(?=\s(?:requires|ensures)\b|\s*\{)')
 LENT = re.compile(r"(\w+)\s*:\s*&(?:'\w+\s+)?mut\b|&(?:'\w+\s+)?mut\s+(self)\b")
-CLAUSE = re.compile(r"\s*(requires|ensures)(?:\s+\w+)?\s*\{")
-EQUATION = re.compile(r"λ (\S+)\. ⌜ ([^≡→⊎⌜⌝]+) ≡ ([^≡→⊎⌜⌝]+) ⌝")
+# a starred clause, of memory, is one too, and no equation
+CLAUSE = re.compile(r"\s*((requires|ensures)\*?(?:\s+\w+)?)\s*\{")
+EQUATION = re.compile(r"([^≡≢→↔⊎×∧∨∗λ∀∃⌜⌝]+) ≡ ([^≡≢→↔⊎×∧∨∗λ∀∃⌜⌝]+)")
+# what the caller doesn't know: the result, a room after the call, and a `_`
+UNKNOWN = re.compile(r"(?<![\w.])(?:result|_)(?!\w)|\.\s*new\b")
 
 
 def clauses(text, at):
-    """The clauses from a place on: the word that each begins with, and what stands in its braces."""
+    """The clauses from a place on: the word that each begins with, all that stands before its braces, and what stands in them."""
     while match := CLAUSE.match(text, at):
         at, depth = match.end(), 1
         while depth:
             depth += {"{": 1, "}": -1}.get(text[at], 0)
             at += 1
-        yield match[1], " ".join(text[match.end():at - 1].split())
+        yield match[2], match[1], " ".join(text[match.end():at - 1].split())
 
 
 def states(clause, room=None):
@@ -31,11 +34,8 @@ def states(clause, room=None):
     match = EQUATION.fullmatch(clause)
     if not match:
         return False
-    result, *sides = match.groups()
-    name = re.escape(result)
-    subject = re.escape(f"now ({room} .exit)") if room else rf"(?:\w+ )?(?!_){name}"
-    unknown = rf"(?<![\w·])(?:{name}|_)(?![\w·])|\.exit"
-    return any(re.fullmatch(subject, a) and not re.search(unknown, b) for a, b in (sides, sides[::-1]))
+    sides, subject = match.groups(), rf"{re.escape(room)}\.new" if room else r"(?:(?!_)\w+ )?result"
+    return any(re.fullmatch(subject, a) and not UNKNOWN.search(b) for a, b in (sides, sides[::-1]))
 
 
 def faults(text):
@@ -44,7 +44,7 @@ def faults(text):
     for match in PUBLIC.finditer(text):
         name, signature = match.groups()
         contract = list(clauses(text, match.end()))
-        promises = [clause for word, clause in contract if word == "ensures"]
+        promises = [clause for word, _, clause in contract if word == "ensures"]
         if not promises:
             yield name, "has no ensures"
         if "->" in signature and not any(states(clause) for clause in promises):
@@ -60,37 +60,40 @@ def self_test():
     """Each fault is found, and a good function has none."""
     silent, vague, asking = "has no ensures", "does not state what it returns", "has a requires"
     room, other, own = (f"does not state what {name} holds after the call" for name in ("room", "other", "self"))
-    good = "pub fn good(x: u8) -> u8\n    ensures { λ r. ⌜ r ≡ x ⌝ }"
-    lent = "pub fn f(x: u8, room: &mut [u8]) -> u8 ensures { λ r. ⌜ r ≡ x ⌝ }"
-    kept = "ensures { λ _. ⌜ now (room .exit) ≡ put x (now (room .entry)) ⌝ }"
+    good = "pub fn good(x: u8) -> u8\n    ensures { result ≡ x }"
+    lent = "pub fn f(x: u8, room: &mut [u8]) -> u8 ensures { result ≡ x }"
+    kept = "ensures room_after { room.new ≡ put x room.old }"
     cases = (
         (good, []),
-        ("    pub fn f(self) -> u8\n        ensures { λ r. ⌜ g r ≡ {A} self ⌝ }", []),
-        ("pub fn f(x: u8) -> u8 ensures bound { λ r. ⌜ r ≤ 9 ⌝ } ensures told { λ r. ⌜ x ≡ r ⌝ }", []),
+        ("    pub fn f(self) -> u8\n        ensures { g result ≡ {A} self }", []),
+        ("pub fn f(x: u8) -> u8 ensures bound { result ≤ 9 } ensures told { x ≡ result }", []),
+        ("pub fn f(x: &u8) -> u8 ensures { result ≡ g x.now }", []),
         (f"{lent}\n    {kept}", []),
         (f"pub fn f(x: u8, room: &mut [u8]) {kept}", []),
+        (f"pub fn f(x: u8, room: &mut [u8]) ensures* room_is {{ room ↦ x }} {kept}", []),
         ("pub(crate) fn f(x: u8) -> u8", []),
         ("pub fn f(x: u8)", [silent]),
         ("    pub fn f(x: u8) -> u8", [silent, vague]),
         ("pub const fn f(x: u8) -> u8", [silent, vague]),
-        ("pub fn f(x: u8) -> u8 // ensures { λ r. ⌜ r ≡ x ⌝ }\n", [silent, vague]),
-        ('pub extern "C" fn f(x: u8) -> u8 requires { ⌜ x < 9 ⌝ } ensures { λ r. ⌜ r ≡ x ⌝ }', [asking]),
-        (f"{good} requires small {{ ⌜ x < 9 ⌝ }}", [asking]),
+        ("pub fn f(x: u8) -> u8 // ensures { result ≡ x }\n", [silent, vague]),
+        ('pub extern "C" fn f(x: u8) -> u8 requires { x < 9 } ensures { result ≡ x }', [asking]),
+        (f"{good} requires small {{ x < 9 }}", [asking]),
+        (f"{good} requires* {{ x < 9 }}", [asking]),
         ("pub fn f(room: &mut [u8])", [silent, room]),
-        ("pub fn f(&mut self, x: u8) ensures { λ _. ⌜ x ≡ x ⌝ }", [own]),
-        ("pub fn f<'a>(x: u8, room: &'a mut [u8], other: &'a mut u32) ensures { λ _. ⌜ x ≡ x ⌝ }", [room, other]),
+        ("pub fn f(&mut self, x: u8) ensures { x ≡ x }", [own]),
+        ("pub fn f<'a>(x: u8, room: &'a mut [u8], other: &'a mut u32) ensures { x ≡ x }", [room, other]),
         (f"pub fn f(x: u8, room: &mut [u8], other: &mut [u8]) {kept}", [other]),
         (f"pub fn f(x: u8, room: &mut [u8]) -> u8 {kept}", [vague]),
-        ("pub fn f(room: &mut [u8]) -> u8 ensures { λ r. ⌜ now (room .exit) ≡ g r ⌝ }", [vague, room]),
-        ("pub fn f(room: &mut [u8]) -> u8 ensures { λ r. ⌜ r ≡ length (now (room .exit)) ⌝ }", [vague, room]),
-        *((f"pub fn f(x: u8) -> u8 ensures {{ λ {fact} }}", [vague]) for fact in (
-            "_. ⌜ x ≡ x ⌝", "_. ⌜ _ ≡ x ⌝", "r. ⌜ x ≡ x ⌝", "r. ⌜ r ≡ r ⌝", "r. ⌜ r ≡ _ ⌝", "r. ⌜ g r ≡ g r ⌝",
-            "r. ⌜ r ≡ r + 0 ⌝", "r. ⌜ r - r ≡ 0 ⌝", "r. ⌜ r ≤ 9 ⌝", "r. ⌜ x < 9 → r ≡ x ⌝", "r. ⌜ r ≡ x ⊎ x < 9 ⌝",
-            "r. ⌜ x < 9 ⌝ -∗ ⌜ r ≡ x ⌝",
+        ("pub fn f(room: &mut [u8]) -> u8 ensures { room.new ≡ g result }", [vague, room]),
+        ("pub fn f(room: &mut [u8]) -> u8 ensures { result ≡ length room.new }", [vague, room]),
+        *((f"pub fn f(x: u8) -> u8 ensures {{ {fact} }}", [vague]) for fact in (
+            "x ≡ x", "_ ≡ x", "result ≡ result", "result ≡ _", "g result ≡ g result", "_ result ≡ x", "result ≡ result + 0",
+            "result - result ≡ 0", "result ≤ 9", "x < 9 → result ≡ x", "result ≡ x ⊎ x < 9", "result ≡ x ∨ x < 9",
+            "∃ y. result ≡ y", "result ≢ x", "g (result) ≡ x", "(λ y. result ≡ y) x", "result ≡ x ↔ x < 9", "results ≡ x",
         )),
-        *((f"{lent} ensures {{ λ _. ⌜ {fact} ⌝ }}", [room]) for fact in (
-            "now (room .exit) ≡ now (room .exit)", "now (room .entry) ≡ now (room .entry)", "now (room .exit) ≡ _",
-            "length (now (room .exit)) ≡ length (now (room .entry))", "now (broom .exit) ≡ now (room .entry)",
+        *((f"{lent} ensures after {{ {fact} }}", [room]) for fact in (
+            "room.new ≡ room.new", "room.old ≡ room.old", "room.new ≡ _", "length room.new ≡ length room.old", "broom.new ≡ room.old",
+            "room.new ≡ put result x", "x < 9 → room.new ≡ room.old",
         )),
     )
     for head, expected in cases:

@@ -17,7 +17,7 @@ ROOT = Path(__file__).resolve().parent.parent
 sys.path.insert(0, str(ROOT / "reference"))
 import convert_lines  # noqa: E402
 
-CONVERT = ROOT / "target/bin/convert"
+CONVERT = ROOT / "crates/convert/out/convert"
 
 # how long anything may take, in seconds
 PATIENCE = 20

@@ -11,7 +11,7 @@ ROOT = Path(__file__).resolve().parent.parent
 sys.path.insert(0, str(ROOT / "reference"))
 import convert_lines  # noqa: E402
 
-CONVERT = ROOT / "target/bin/convert"
+CONVERT = ROOT / "crates/convert/out/convert"
 
 # a line's limit, and the octets of a read, each with its neighbours
 SIZES = (1, 7, 100, 1023, 1024, 1025, 4096, 65535, 65536, 65537)

@@ -25,12 +25,12 @@ def text_of(file):
 
 def named(crate, part, others):
     """The crates among others that the files of a part of a crate name: `name::` in code, where no module of the crate's own has
-    that name, and `Rattle·name` in what is said of it."""
+    that name, and `Rattle.name` in what is said of it."""
     own = {file.stem for file in (crate / "src").glob("**/*.rt")}
     for file in (crate / part).glob("**/*"):
         if file.suffix in (".rt", ".antt"):
             text = text_of(file)
-            found = set(re.findall(r"Rattle·(\w+)", text)) | set(re.findall(r"(?<![\w:])(\w+)::", text)) - own
+            found = set(re.findall(r"\bRattle\.(\w+)", text)) | set(re.findall(r"(?<![\w:])(\w+)::", text)) - own
             yield from found & others - {crate.name}
 
 
@@ -100,7 +100,7 @@ def self_test():
         files = {
             "low/src/lib.rt": "// Low. More.\n", "middle/src/lib.rt": "// A middle: it has two\n// lines. More.\nuse low::x;\n",
             "top/src/main.rt": "// Top.\n// See low::x.\nuse middle::y;\nfn f() { own::g() }\n", "top/src/own.rt": "",
-            "top/proofs/main/Proof.antt": "use Rattle·low.specs.A.{a} -- Rattle·own\n", "own/src/lib.rt": "// Own.\nmod a;\n",
+            "top/proofs/main/Answers.antt": "use Rattle.low.specs.A.{a} -- Rattle.own\n", "own/src/lib.rt": "// Own.\nmod a;\n",
         }
         for path, text in files.items():
             (root / "crates" / path).parent.mkdir(parents=True, exist_ok=True)

@@ -10,7 +10,7 @@ import textwrap
 from pathlib import Path
 
 sys.dont_write_bytecode = True
-from contracts import PUBLIC, clauses  # noqa: E402
+from contracts import CLAUSE, PUBLIC, clauses  # noqa: E402
 
 ROOT = Path(__file__).resolve().parent.parent
 PAGE = ROOT / "docs/promises/functions.md"
@@ -28,16 +28,18 @@ EXCEPTIONS = {
 HEAD = """# The public functions
 
 Made by `python3 tests/functions.py` from `src/` and `must-fail/`; the test command sees that it is current. For each public function
-of a library: where it stands, its contract as it stands there, and the wrong programs that are refused. `r` is what it returns,
-`now (x .entry)` what lent memory holds before the call and `now (x .exit)` after it. A wrong program is an edit of that name in the
-crate's `must-fail/`. After "in" stands a function of the crate's own that is called on the way: the edit is refused at its contract.
+of a library: where it stands, its contract as it stands there, and the wrong programs that are refused. `result` is what it returns,
+`x.now` what shared memory holds, `x.old` what lent memory holds before the call and `x.new` after it. A wrong program is an edit of
+that name in the crate's `must-fail/`. After "in" stands a function of the crate's own that is called on the way: the edit is refused
+at its contract.
 """
 
 FUNCTION = re.compile(r'^( *)((?:pub(?:\(crate\))? )?(?:const )?(?:extern "C" )?fn (\w+)[^{]*?)(?=\s(?:requires|ensures)\b|\s*\{)', re.M)
 OWNER = re.compile(r"^impl (\w+) \{", re.M)
 PART = re.compile(r"^# (\w+): refused at (\S+)", re.M)
-PROOF = re.compile(r"^proofs/(.+)/Proof\.antt$")
-USED = re.compile(r"^use crate::(\w+)::(\w+);", re.M)
+# where a function is refused: its folder in proofs/; a file there may be named, and a law stands in a file of proofs/ itself or of Laws/
+PROOF = re.compile(r"^proofs/(?!Laws\b)([\w/]+?)(?:/(?:Answers|Invariants|Proof)\.antt)?$")
+USED = re.compile(r"^use crate::(\w+)::\{?([\w\s,]+)\}?;", re.M)
 
 
 def end_of(text, at):
@@ -66,10 +68,10 @@ class Function:
         self.shown = "::".join(filter(None, (owner, self.name)))
         self.public = bool(PUBLIC.match(text, match.start(2)))
         self.head = re.sub(r",\s*\)", ")", re.sub(r"\(\s+", "(", " ".join(match[2].split())))
-        self.contract = [f"{word} {{ {clause} }}" for word, clause in clauses(text, match.end())]
+        self.contract = [" ".join(f"{head} {{ {clause} }}".split()) for _, head, clause in clauses(text, match.end())]
         at = match.end()
-        while found := re.compile(r"\s*(?:requires|ensures)(?:\s+\w+)?\s*(?=\{)").match(text, at):
-            at = end_of(text, found.end())
+        while found := CLAUSE.match(text, at):
+            at = end_of(text, found.end() - 1)
         self.first, self.last = match.start(2), end_of(text, text.index("{", at))
         self.body = text[at:self.last]
         self.wrong = []
@@ -90,7 +92,7 @@ def functions(crate):
 
 def called(function, all_functions, source):
     """The functions of its crate that a function calls."""
-    used = {name: module for module, name in USED.findall(source)}
+    used = {name: module for module, names in USED.findall(source) for name in re.findall(r"\w+", names)}
     for owner, name in re.findall(r"(?:\b(\w+)::|\.)?\b(\w+)\(", function.body):
         places = [name, f"{function.module}/{name}", f"{used.get(name)}/{name}"]
         places += [path for path in all_functions if path.endswith(f"/{owner or function.owner}/{name}")]
@@ -181,21 +183,23 @@ def self_test():
         crate = Path(folder) / "crates/planted"
         for part in ("src", "must-fail"):
             (crate / part).mkdir(parents=True)
-        (crate / "src/lib.rt").write_text("pub mod a;\npub fn low() -> u8\n    ensures { λ r. ⌜ r ≡ 3 ⌝ }\n{\n    3\n}\n", "utf-8")
+        (crate / "src/lib.rt").write_text("pub mod a;\npub fn low() -> u8\n    ensures { result ≡ 3 }\n{\n    3\n}\n", "utf-8")
         (crate / "src/a.rt").write_text(
-            "fn inner(x: u8) -> u8 {\n    x // outer()\n}\n"
-            "pub fn outer(\n    x: u8,\n) -> u8\n    ensures { λ r. ⌜ r ≡ {A} x ⌝ }\n{\n    inner(x)\n}\n"
-            "impl T {\n    pub fn own(self) -> u8\n        ensures { λ r. ⌜ r ≡ 1 ⌝ }\n    {\n        1\n    }\n}\n"
-            "pub fn bare() -> u8\n    ensures { λ r. ⌜ r ≡ 2 ⌝ }\n{\n    2\n}\n", "utf-8")
+            "use crate::b::{\n    A, far,\n};\nfn inner(x: u8) -> u8 {\n    x // outer()\n}\n"
+            "pub fn outer(\n    x: u8,\n) -> u8\n    ensures value { result ≡ {A} x }\n{\n    inner(x)\n}\n"
+            "impl T {\n    pub fn own(self) -> u8\n        ensures { result ≡ 1 }\n    {\n        1\n    }\n}\n"
+            "pub fn bare() -> u8\n    ensures { result ≡ 2 }\n{\n    2\n}\n"
+            "pub fn away() -> u8\n    ensures { result ≡ 5 }\n{\n    far()\n}\n", "utf-8")
+        (crate / "src/b.rt").write_text("pub struct A {}\nfn far() -> u8 {\n    5\n}\n", "utf-8")
         (crate / "must-fail/together_1.edit").write_text(
-            "# wrong: refused at proofs/a/inner/Proof.antt\n# lower: refused at proofs/low/Proof.antt\n"
-            "# definition_y: refused at proofs/Laws/A.antt b\n", "utf-8")
+            "# wrong: refused at proofs/a/inner\n# lower: refused at proofs/low/Answers.antt returns\n"
+            "# there: refused at proofs/b/far\n# definition_y: refused at proofs/Laws/A.antt b\n", "utf-8")
         (crate / "must-fail/one.edit").write_text("file: src/a.rt\nold:         1\nnew:         0\n", "utf-8")
         (crate / "must-fail/definition_x.edit").write_text("file: src/a.rt\nold:     2\nnew:     3\n", "utf-8")
         made = list(libraries(Path(folder)))
         said = page(made)
         parts_of_it = (
-            "outer(x: u8) -> u8\n    ensures { λ r. ⌜ r ≡ {A} x ⌝ }\n", "`wrong` in `inner`", "`one`.", "### `planted::low`\n", "`lower`.",
+            "outer(x: u8) -> u8\n    ensures value { result ≡ {A} x }\n", "`wrong` in `inner`", "`one`.", "### `planted::low`\n", "`lower`.", "`there` in `far`.",
         )
         if list(uncovered(made)) != [("planted::a::bare", "bare")] or not all(part in said for part in parts_of_it) or "definition_y" in said:
             sys.exit(f"functions.py does not find what it should:\n{said}")

@@ -40,12 +40,12 @@ NAMED_FORM = re.compile(r"(?: \(02\))?: ")
 
 # a name, with the type, module or crate before it; a word that is made of several, as the names of definitions are
 NAME = re.compile(r"(?:[A-Za-z]\w*(?:::|\.))*([A-Za-z_]\w*(?:-\w+)*)")
-COMPOUND = re.compile(r"\b[a-z]+[A-Z]\w*")
+COMPOUND = re.compile(r"\b[a-z]\w*_\w+|\b[a-z]+[A-Z]\w*")
 DEFINED = re.compile(r"^\s*(?:(?:pub|unfoldable|abbrev|record|data) )*(\S+)(?: :| \(|\s*$)", re.M)
 WORD = re.compile(r"[A-Za-z_]\w*")
 
 # what is named in another way: a place that stands for others, beginnings of names, texts and octets, what the tools know
-PLACEHOLDER = re.compile(r"\b(?:NAME|MODULE|FUNCTION|FILE|OLD|\w+_N)\b|^target/")
+PLACEHOLDER = re.compile(r"\b(?:NAME|MODULE|FUNCTION|FILE|OLD|\w+_N)\b|(?:^|/)out/")
 ELSEWHERE = {
     "get", "definition_", "C081F680", "HF0", "V", "Five", "requires", "ensures", "unfolding", "axiom", "stdin", "stdout", "rt", "tr",
     "erlang-asn1", "make", "VERSION", "xargs",
@@ -82,7 +82,7 @@ def is_there(span, known):
     if re.fullmatch(r"[\w./-]+", span) and ("/" in span or re.search(r"\.(?:txt|py|md|rt)$", span)):
         places = ("", "reference/", "crates/*/", "crates/*/src/", "crates/*/proofs/")
         return any(next(ROOT.glob(place + span.rstrip("/")), None) for place in places)
-    return name[1] in known if name else known.issuperset(COMPOUND.findall(span))
+    return name[1] in known if name else known.issuperset(COMPOUND.findall(re.sub(r"\S*/\S*", "", span)))
 
 
 def headings(text):
@@ -178,9 +178,9 @@ def self_test_of_quotations():
 
 def self_test():
     """What is not there is found, and what is there is not."""
-    known = {"leapOf", "one-year", "Year", "of"}
-    good = ("leapOf", "one-year", "Year::of", "Year.of", "r ≡ leapOf y", ":00", "tests/promises.py", "crates.txt", "specs/Demands.antt")
-    bad = ("leapsOf", "two-year", "Year::at", "r ≡ leapsOf y", "tests/none.py", "specs/None.antt")
+    known = {"leap_of", "one-year", "Year", "of"}
+    good = ("leap_of", "one-year", "Year::of", "Year.of", "result ≡ leap_of y", ":00", "tests/promises.py", "crates.txt", "specs/Demands.antt", "python3 tests/no_name.py --check")
+    bad = ("leaps_of", "two-year", "Year::at", "result ≡ leaps_of y", "result ≡ leapOf y", "tests/none.py", "specs/None.antt")
     if not all(is_there(span, known) for span in good) or any(is_there(span, known) for span in bad):
         sys.exit("promises.py does not find what it should")
     with tempfile.TemporaryDirectory() as folder:

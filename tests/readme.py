@@ -4,13 +4,15 @@ others, since rt keeps files for each crate that it looks at; and sees that each
 first example that differs or is not proved and exits 1, or prints nothing."""
 
 import re
-import shutil
 import subprocess
 import sys
 import tempfile
 from concurrent.futures import ThreadPoolExecutor
 from functools import partial
 from pathlib import Path
+
+sys.dont_write_bytecode = True
+from must_fail_logs import Copy  # noqa: E402
 
 ROOT = Path(__file__).resolve().parent.parent
 EXAMPLE = re.compile(r"^```sh\n(.*?)^```\n+```text\n(.*?)^```", re.M | re.S)
@@ -21,8 +23,7 @@ BLOCK_OF_C = re.compile(r"^```c\n(.*?)^```", re.M | re.S)
 
 def copied(codes, folder):
     """Makes a copy of the project, with a crate more for each block of Rattle."""
-    for part in ("crates", "target/rlib", "target/stamp"):
-        shutil.copytree(ROOT / part, folder / part)
+    Copy(folder)
     crates = (ROOT / "crates.txt").read_text("utf-8")
     below = ABOVE_CODEC.search(crates).group(1)
     for k, code in enumerate(codes):
@@ -34,8 +35,8 @@ def copied(codes, folder):
 
 def fault_of_code(k, code, folder):
     """Why a crate in a copy of the project is not proved, or nothing."""
-    run = subprocess.run(["rt", "check", f"example{k}"], cwd=folder, capture_output=True, text=True)
-    if run.returncode or f"example{k} proved" not in run.stdout + run.stderr:
+    run = subprocess.run(["rt", "check"], cwd=folder / f"crates/example{k}", capture_output=True, text=True)
+    if run.returncode or "\nlogic=proved " not in run.stdout:
         return f"README.md: not proved:\n{code}{run.stdout}{run.stderr}"
     return None
 

@@ -1,7 +1,7 @@
 """Gives the line program its input whole and in pieces, in the ways of docs/PARALLEL.md, and compares what comes of the pieces with
 what comes of the whole and with what is stored, octet for octet.
 
-`split_runs.py [PROGRAM]`; without a program it is target/bin/convert. Needs GNU parallel, and coreutils and findutils of GNU.
+`split_runs.py [PROGRAM]`; without a program it is crates/convert/out/convert. Needs GNU parallel, and coreutils and findutils of GNU.
 Prints the first difference and exits 1, or prints nothing.
 """
 
@@ -203,7 +203,7 @@ def try_failed_pieces(program):
 
 
 def main():
-    program = Path(sys.argv[1] if len(sys.argv) > 1 else ROOT / "target/bin/convert").resolve()
+    program = Path(sys.argv[1] if len(sys.argv) > 1 else ROOT / "crates/convert/out/convert").resolve()
     missing = [tool for tool in (str(program), "parallel", "split", "xargs", "paste") if shutil.which(tool) is None]
     if missing:
         sys.exit(f"split runs: there is no {missing[0]}")
