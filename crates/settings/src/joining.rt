@@ -15,7 +15,7 @@ use types::types::{Limits, Type, TypeFound, has_place, unlimited};
 use types::years::{PlainYears, SignedYears, YearRow, Years, year_setting_at};
 
 // Whether one of the lists has the Year with this number.
-fn named_in(lists: Lists, number: u8) -> bool
+fn named_in(lists: Lists, number: u32) -> bool
     requires { Sound lists }
     ensures { result ≡ member number (map year_in (kept lists)) }
 {
@@ -54,7 +54,7 @@ fn years_in(row: YearRow, lists: Lists) -> Years
 }
 
 // Whether one of two Years has this number.
-fn named(a: u8, b: u8, number: u8) -> bool
+fn named(a: u32, b: u32, number: u32) -> bool
     ensures { result ≡ member number (a ∷ b ∷ []) }
 {
     if a == number {
@@ -64,7 +64,7 @@ fn named(a: u8, b: u8, number: u8) -> bool
 }
 
 // The Years of two lists of one row, by their numbers; 0 for no second list.
-fn years_of(row: YearRow, a: u8, b: u8) -> Years
+fn years_of(row: YearRow, a: u32, b: u32) -> Years
     ensures { result ≡ years_of row (a ∷ b ∷ []) }
 {
     match row {
@@ -91,15 +91,14 @@ fn list_row(list: Settings) -> YearRow
 }
 
 // The form of a time with these settings, by their numbers.
-fn time_at(time: u8, zone: u8) -> TimeForm
+fn time_at(time: u32, zone: u32) -> TimeForm
     ensures { result ≡ time_at time zone }
 {
     let clock = clock_at(time % 10);
     let zone = zone_at(zone);
-    let digits = (time / 10) as u32;
     TimeForm {
         clock,
-        digits,
+        digits: time / 10,
         zone,
     }
 }

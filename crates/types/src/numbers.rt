@@ -40,7 +40,7 @@ pub fn zone_number(form: ZoneForm) -> u32
 }
 
 // The Date setting with a number; the last one for any number above.
-pub fn date_at(number: u8) -> DateForm
+pub fn date_at(number: u32) -> DateForm
     ensures { result ≡ date_at number }
 {
     match number {
@@ -54,7 +54,7 @@ pub fn date_at(number: u8) -> DateForm
 }
 
 // The Time setting with a number, its fraction aside; the last one for any number above.
-pub fn clock_at(number: u8) -> ClockForm
+pub fn clock_at(number: u32) -> ClockForm
     ensures { result ≡ clock_at number }
 {
     match number {
@@ -65,7 +65,7 @@ pub fn clock_at(number: u8) -> ClockForm
 }
 
 // The Local-or-UTC setting with a number; the last one for any number above.
-pub fn zone_at(number: u8) -> ZoneForm
+pub fn zone_at(number: u32) -> ZoneForm
     ensures { result ≡ zone_at number }
 {
     match number {

@@ -49,7 +49,7 @@ pub enum Years {
 }
 
 // The Year setting with a number; the last one for any number above.
-pub fn year_setting_at(number: u8) -> YearSetting
+pub fn year_setting_at(number: u32) -> YearSetting
     ensures { result ≡ year_setting_at number }
 {
     match number {

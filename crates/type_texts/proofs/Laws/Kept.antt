@@ -1,5 +1,5 @@
 -- Numbers that come once, and those of them that are kept: laws for any choice of Years, and no case for each.
-use mathlib.Core.Path.{◌≡◌, refl, ap, sym, ◌∙◌, subst}
+use mathlib.Core.Path.{◌≡◌, refl, ap, ap₂, sym, ◌∙◌, subst}
 use mathlib.Core.Bool.{Bool, true, false, not, ◌&&◌, ◌||◌, cond, and-eq-true_iff, false≢true, or-false}
 use mathlib.Core.List.Permᴰ
 use mathlib.Core.List.{List, [], ◌∷◌, map, Permᴰ}
@@ -132,7 +132,10 @@ unfolding apart member
 apart_perm Permᴰ.nil = refl
 apart_perm (Permᴰ.cons {b = b} e d) = rw (e, member-perm b d, apart_perm d)
 apart_perm (Permᴰ.swap {a = a} {b = b} {l = r} e g) =
-    rw (← e, ← g, eqb_turn b a) (and_swap (eqb a b) (member a r) (member b r) (apart r))
+    turned ∙ ap₂ (λ (x y : ℕ). apart (x ∷ y ∷ r)) g e
+  where
+    turned : apart (a ∷ b ∷ r) ≡ apart (b ∷ a ∷ r)
+    turned = rw (eqb_turn b a) (and_swap (eqb a b) (member a r) (member b r) (apart r))
 apart_perm (Permᴰ.trans d e) = apart_perm d ∙ apart_perm e
 
 keep_same : (p q : ℕ → Bool) (x : ℕ) → ((n : ℕ) → eqb x n ≡ false → p n ≡ q n) → (l : List ℕ) → member x l ≡ false → keep p l ≡ keep q l

@@ -114,8 +114,12 @@ unfolding distinct all_of
 distinct-perm Permᴰ.nil = refl
 distinct-perm (Permᴰ.cons {b = b} e d) = rw e (ap₂ (λ (t u : Bool). t && u) (all_perm (λ t. not (equal_lists b t)) d) (distinct-perm d))
 distinct-perm (Permᴰ.swap {a = a} {b = b} {l = r} e g) =
-    rw (← e, ← g, equal_sym b a)
-    (and_cross (not (equal_lists a b)) (all_of (λ t. not (equal_lists a t)) r) (all_of (λ t. not (equal_lists b t)) r) (distinct r))
+    turned ∙ ap₂ (λ (x y : Settings). distinct (x ∷ y ∷ r)) g e
+  where
+    turned : distinct (a ∷ b ∷ r) ≡ distinct (b ∷ a ∷ r)
+    turned =
+        rw (equal_sym b a)
+        (and_cross (not (equal_lists a b)) (all_of (λ t. not (equal_lists a t)) r) (all_of (λ t. not (equal_lists b t)) r) (distinct r))
 distinct-perm (Permᴰ.trans d e) = distinct-perm d ∙ distinct-perm e
 
 module _ (limits : Limits) where

@@ -65,6 +65,7 @@ all-of f q (p ∷ ps) h = rw (h p here, all-of f q ps (λ r a. h r (there a)))
 -- .. and the other way round.
 of_all : {A : Type 0} (f : List ℕ → A) (q : A → Bool) (ps : List (List ℕ)) → all_of q (map f ps) ≡ true → (p : List ℕ) → Among p ps → q (f p) ≡ true
 unfolding all_of
+of_all f q [] h r x = elim x [ ]
 of_all f q (p ∷ ps) h r here = ((and-eq-true_iff (q (f p)) _).0 h).0
 of_all f q (p ∷ ps) h r (there a) = of_all f q ps ((and-eq-true_iff (q (f p)) _).0 h).1 r a
 
@@ -126,6 +127,7 @@ every q (p ∷ ps) h = rw (h p here, every q ps (λ r a. h r (there a)))
 
 alone : (q p : List ℕ) → Among q (p ∷ []) → q ≡ p
 alone q p here = refl
+alone q p (there x) = elim x [ ]
 
 module _ (limits : Limits) (l : List ℕ) (r : TwoRows limits l) where
   list_read : (p : List ℕ) → Among p r.lists → (list_of p).readable ≡ true
@@ -146,6 +148,7 @@ module _ (limits : Limits) (l : List ℕ) (r : TwoRows limits l) where
       go : (ps : List (List ℕ)) → ((p : List ℕ) → Among p ps → lacks 124 p ≡ true) → length ps ≤ most_lists
           → ((p : List ℕ) → Among p ps → usable limits (list_of p) ≡ true) → Differ ps → Among r.first ps → Among r.second ps
           → type_of limits (join_with 124 ps) ≡ TypeRead.NoRow
+      go [] b c u d f s = elim f [ ]
       go (p ∷ []) b c u d f s = absurd (r.two (ap list_of (alone r.first p f ∙ sym (alone r.second p s))))
       go (p ∷ q ∷ ps) b c u d f s =
           let n : length (map list_of (p ∷ q ∷ ps)) ≡ length (p ∷ q ∷ ps) = length-map (p ∷ q ∷ ps) list_of in
@@ -184,6 +187,7 @@ no_row false x n e = refl
 
 each_lacks : (ps : List (List ℕ)) → all_of (lacks 124) ps ≡ true → (p : List ℕ) → Among p ps → lacks 124 p ≡ true
 unfolding all_of
+each_lacks [] h r x = elim x [ ]
 each_lacks (p ∷ ps) h r here = ((and-eq-true_iff (lacks 124 p) _).0 h).0
 each_lacks (p ∷ ps) h r (there a) = each_lacks ps ((and-eq-true_iff (lacks 124 p) _).0 h).1 r a
 

@@ -20,9 +20,6 @@ pub returns-then-digit-gt57 : goal.returns-then-digit-gt57
 unfolding fraction_number
 returns-then-digit-gt57 c = rw (le-leb _ _ c.if-digit-lt49.false, lt-leb _ _ c.if-digit-gt57.true)
 
-pub overflow_cast-result : goal.overflow_cast-result
-overflow_cast-result c = sym (length-take-le _ _ (omega arith))
-
 pub place_in-word-requires : goal.place_in-word-requires
 place_in-word-requires c = (fraction_words, (refl, refl))
 

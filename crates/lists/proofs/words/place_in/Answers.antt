@@ -32,3 +32,6 @@ loop-place-preserved c ws e =
 
 pub returns : goal.returns
 returns c ws e = left_none (c.loop-place.invariant ws e) c.loop-place-test.false
+
+pub slice_bounds-same-end : goal.slice_bounds-same-end
+slice_bounds-same-end c = next_within c.requires c.loop-place.invariant c.loop-place-test.true

@@ -6,6 +6,7 @@ use Rattle.packing.specs.Parts.{date_of}
 use Rattle.packing.proofs.Laws.Parts.{taken}
 use borrow.Author.Rules.{rules}
 use Rattle.packing.proofs.dates.date_part.Goals as goal
+use Rattle.packing.proofs.dates.date_part.Goals.{in-Date, in-DateTime}
 
 pub returns-in-Time : goal.returns-in-Time
 unfolding date_of layout
@@ -18,9 +19,9 @@ pub returns : goal.returns
 unfolding date_of
 returns c = let row = c.args.row in
     let e = c.date_group.ensures.result_value in record {
-      result_value = ⊎_elim
-          (λ w. taken (date_fields row) (date_of row) e w.3 w.1.given.1 refl)
-          (λ w. taken (date_fields row) (date_of row) e w.3 w.1.given.1 refl)
-          c.match-value.branch;
+      result_value = elim c.match-value.branch [
+          in-Date w ↦ taken (date_fields row) (date_of row) e w.date-is w.in-Date.is refl
+        | in-DateTime w ↦ taken (date_fields row) (date_of row) e w.date-is w.in-DateTime.is refl
+        ];
       fits = search rules;
     }

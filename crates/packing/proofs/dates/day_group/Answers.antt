@@ -16,7 +16,7 @@ returns-in-Y c = record {
 pub returns-in-YM : goal.returns-in-YM
 unfolding day_fields field_bits width binary_digits
 returns-in-YM c = record {
-      result_value = one_field (ap day_fields c.in-YM.is) c.from_one_lem.ensures.0;
+      result_value = one_field (ap day_fields c.in-YM.is) c.from_one.ensures.result_value;
       fits = search rules;
     }
 

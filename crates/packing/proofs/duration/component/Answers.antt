@@ -6,7 +6,9 @@ use borrow.Author.Rules.{rules}
 use Rattle.packing.proofs.duration.component.Goals as goal
 
 pub extended-requires : goal.extended-requires
-extended-requires c = root_widths c.args.place c.requires
+extended-requires c =
+    let k = root_widths c.args.place c.requires in
+    record { count_bound = k.0; count_value = k.1 }
 
 pub returns-then-is_there : goal.returns-then-is_there
 unfolding component_fields layout

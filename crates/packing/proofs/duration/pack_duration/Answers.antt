@@ -12,9 +12,9 @@ unfolding bits_of unpacked
 returns-then-none_written c =
     let d = c.args.duration in
     let e = added_twice c.append_numbers-numbered.ensures.added c.append_fraction-end.ensures.added in
-    let n = sym c.none_written_lem.ensures ∙ c.if-none_written.true in
+    let n = sym c.none_written.ensures ∙ c.if-none_written.true in
     let all = duration-bits d c.presences.ensures.result_value in
-    c.short.ensures ∙ packed-fields d (sym (none_written_lem c.append_fraction-end.new.0 c.append_fraction-end.result n) ∙ e.bits ∙ all)
+    c.short.ensures ∙ packed-fields d (sym (none_written_lem c.append_fraction-end.new.out c.append_fraction-end.result n) ∙ e.bits ∙ all)
 
 pub returns : goal.returns
 unfolding bits_of unpacked

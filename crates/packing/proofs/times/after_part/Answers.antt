@@ -5,6 +5,7 @@ use Rattle.packing.specs.Parts.{after_fields, after_of}
 use Rattle.packing.proofs.Laws.Parts.{taken}
 use borrow.Author.Rules.{rules}
 use Rattle.packing.proofs.times.after_part.Goals as goal
+use Rattle.packing.proofs.times.after_part.Goals.{in-Time, in-DateTime}
 
 pub returns-in-Date : goal.returns-in-Date
 unfolding after_of layout
@@ -16,9 +17,9 @@ returns-in-Date c = record {
 pub returns : goal.returns
 unfolding after_of
 returns c = let e = c.after_group.ensures.result_value in record {
-      result_value = ⊎_elim
-          (λ w. taken after_fields after_of e w.3 w.1.given.1 refl)
-          (λ w. taken after_fields after_of e w.3 w.1.given.1 refl)
-          c.match-value.branch;
+      result_value = elim c.match-value.branch [
+          in-Time w ↦ taken after_fields after_of e w.time-is w.in-Time.is refl
+        | in-DateTime w ↦ taken after_fields after_of e w.time-is w.in-DateTime.is refl
+        ];
       fits = search rules;
     }

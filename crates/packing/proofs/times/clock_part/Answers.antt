@@ -7,6 +7,7 @@ use Rattle.packing.specs.Parts.{clock_of}
 use Rattle.packing.proofs.Laws.Parts.{taken}
 use borrow.Author.Rules.{rules}
 use Rattle.packing.proofs.times.clock_part.Goals as goal
+use Rattle.packing.proofs.times.clock_part.Goals.{in-Time, in-DateTime}
 
 pub returns-in-Date : goal.returns-in-Date
 unfolding clock_of layout
@@ -18,9 +19,9 @@ returns-in-Date c = record {
 pub returns : goal.returns
 unfolding clock_of
 returns c = let e = c.clock_group.ensures.result_value in record {
-      result_value = ⊎_elim
-          (λ w. taken (λ (t : Time). clock_fields t.clock) clock_of e w.3 w.1.given.1 refl)
-          (λ w. taken (λ (t : Time). clock_fields t.clock) clock_of e w.3 w.1.given.1 refl)
-          c.match-value.branch;
+      result_value = elim c.match-value.branch [
+          in-Time w ↦ taken (λ (t : Time). clock_fields t.clock) clock_of e w.time-is w.in-Time.is refl
+        | in-DateTime w ↦ taken (λ (t : Time). clock_fields t.clock) clock_of e w.time-is w.in-DateTime.is refl
+        ];
       fits = search rules;
     }

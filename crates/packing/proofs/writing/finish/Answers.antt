@@ -32,7 +32,8 @@ unfolding group_bits
 last c =
     let p = c.args.pen in
     let e = c.join-last.ensures in
-    rw (← missing f)
+    let h : 0 < p.held.count = omega arith in
+    rw (← octet_filling _ c.filling.ensures h c.requires.ready.few)
     (filled c.join-last.result e.fits_3.small p.held.count _ p.acc _ c.requires.ready.small e.result_value c.field.ensures.result_value refl)
 
 pub overflow_cast-out : goal.overflow_cast-out

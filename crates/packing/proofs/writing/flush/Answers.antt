@@ -9,10 +9,10 @@ use Rattle.packing.proofs.writing.flush.Goals as goal
 use Rattle.packing.proofs.writing.flush.Goals.{After-octets-whole}
 
 -- The whole octets, counted.
-count : (c : tie.After-octets invariant-loop decreases-loop) → let left = c.before.before.before.before.before.args.left in
-    let held = c.before.before.before.begun.result in
-    (left.count ≡ 8 * c.octets.result.count + held.count) × (held.count < 8)
-count c = cut _ c.before.before.before.begun.ensures c.octets.ensures
+count : (c : After-octets-whole) → let left = c.args.left in
+    let held = c.begun-held.result in
+    (left.count ≡ 8 * c.octets-whole.result.count + held.count) × (held.count < 8)
+count c = cut _ c.begun-held.ensures c.octets-whole.ensures
 
 pub overflow_sub-left : goal.overflow_sub-left
 overflow_sub-left c = begun_le _ c.begun-held.ensures
