@@ -1,7 +1,7 @@
 ghost use Rattle.std.specs.Prelude.{◌≡◌, false, cond, ◌||◌};
 ghost use Rattle.types.specs.declared.types.AnyType.{AnyType};
 ghost use Rattle.types.specs.declared.types.TypeFound.{TypeFound};
-ghost use Rattle.types.specs.AnyTypes as Any;
+ghost use Rattle.types.specs.AnyTypes as AnyTypes;
 ghost use Rattle.types.specs.AnyTypes.{found_type, limited_to};
 ghost use Rattle.types.specs.Types.{carrying, digits_of_parts, every_year, form_of, form_of_parts, fraction_digits, has_date, has_time};
 ghost use Rattle.types.specs.Types.{listed, name_of, parts_of, placed, restricted, unlimited_date, unlimited_time};
@@ -420,7 +420,7 @@ impl AnyType {
 
     // The name that stands for the type's settings, or that they are listed.
     pub fn name(self) -> Name
-        ensures { result ≡ Any.name_of self }
+        ensures { result ≡ AnyTypes.name_of self }
     {
         match self {
             AnyType::Point(t) => t.name(),
@@ -442,7 +442,7 @@ impl AnyType {
 
     // Whether settings or a name can give the type.
     pub fn well_formed(self) -> bool
-        ensures { result ≡ Any.well_formed self }
+        ensures { result ≡ AnyTypes.well_formed self }
     {
         match self {
             AnyType::Point(t) => t.well_formed(),
@@ -453,7 +453,7 @@ impl AnyType {
 
     // The number of fraction digits, 0 without a fraction. A duration has its own in each value, and its type none.
     pub fn fraction_digits(self) -> u32
-        ensures { result ≡ Any.fraction_digits self }
+        ensures { result ≡ AnyTypes.fraction_digits self }
     {
         match self {
             AnyType::Point(t) => t.fraction_digits(),
