@@ -34,7 +34,8 @@ PARTS = ("src", "specs", "proofs")
 MEMORY = 4_000_000
 
 UNFIT = re.compile(
-    r"can be named from here|is not in scope|has no field|has no `|(?:was|were) not (?:admitted|checked)|does not parse|is no name"
+    r"can be named from here|no module is found|is not in scope|has no field|has no `|(?:was|were) not (?:admitted|checked)|is no name|"
+    r"does not parse|operand is missing|expected the end|cannot continue"
 )
 ERROR = re.compile(r"(?:\./)?((?:src|specs|proofs)/\S+):\d+:\d+: error(?:\[[\w-]+\])?: (?:`([^`]*)`: )?")
 # what `search` was left to prove, since no file answers it, or none that fits
