@@ -199,7 +199,8 @@ def self_test():
         made = list(libraries(Path(folder)))
         said = page(made)
         parts_of_it = (
-            "outer(x: u8) -> u8\n    ensures value { result ≡ {A} x }\n", "`wrong` in `inner`", "`one`.", "### `planted::low`\n", "`lower`.", "`there` in `far`.",
+            "outer(x: u8) -> u8\n    ensures value { result ≡ {A} x }\n", "`wrong` in `inner`", "`one`.", "### `planted::low`\n", "`lower`.",
+            "`there` in `far`.",
         )
         if list(uncovered(made)) != [("planted::a::bare", "bare")] or not all(part in said for part in parts_of_it) or "definition_y" in said:
             sys.exit(f"functions.py does not find what it should:\n{said}")

@@ -179,7 +179,10 @@ def self_test_of_quotations():
 def self_test():
     """What is not there is found, and what is there is not."""
     known = {"leap_of", "one-year", "Year", "of"}
-    good = ("leap_of", "one-year", "Year::of", "Year.of", "result ≡ leap_of y", ":00", "tests/promises.py", "crates.txt", "specs/Demands.antt", "python3 tests/no_name.py --check")
+    good = (
+        "leap_of", "one-year", "Year::of", "Year.of", "result ≡ leap_of y", ":00", "tests/promises.py", "crates.txt", "specs/Demands.antt",
+        "python3 tests/no_name.py --check",
+    )
     bad = ("leaps_of", "two-year", "Year::at", "result ≡ leaps_of y", "result ≡ leapOf y", "tests/none.py", "specs/None.antt")
     if not all(is_there(span, known) for span in good) or any(is_there(span, known) for span in bad):
         sys.exit("promises.py does not find what it should")
