@@ -45,7 +45,7 @@ DEFINED = re.compile(r"^\s*(?:(?:pub|unfoldable|abbrev|record|data) )*(\S+)(?: :
 WORD = re.compile(r"[A-Za-z_]\w*")
 
 # what is named in another way: a place that stands for others, beginnings of names, texts and octets, what the tools know
-PLACEHOLDER = re.compile(r"\b(?:NAME|MODULE|FUNCTION|FILE|OLD|\w+_N)\b|(?:^|/)out/")
+PLACEHOLDER = re.compile(r"\b(?:NAME|MODULE|FUNCTION|FILE|OLD|\w+_N)\b|(?:^|/)out/|^build/")
 ELSEWHERE = {
     "get", "definition_", "C081F680", "HF0", "V", "Five", "requires", "ensures", "unfolding", "axiom", "stdin", "stdout", "rt", "tr",
     "erlang-asn1", "make", "VERSION", "xargs",
