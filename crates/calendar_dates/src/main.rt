@@ -6,7 +6,7 @@
 
 use calendar::{Astronomical, Date, Distance, Year};
 use std::io;
-use std::io::{BufWriter, Write};
+use std::io::Write;
 
 const YEARS: [i32; 31] = [
     -2147483648,
@@ -107,9 +107,9 @@ fn print_forms(out: &mut impl Write, year: Year) -> io::Result<()> {
 }
 
 fn main(rt: HostRuntime) -> io::Result<()> {
-    let mut out = BufWriter::new(rt.alloc(), io::writer(&rt))?;
+    let mut out = io::writer(&rt);
     for year in YEARS {
         print_forms(&mut out, Year::of(year))?;
     }
-    out.flush()
+    Ok(())
 }

@@ -4,7 +4,7 @@
 
 use calendar::{Distance, Year};
 use std::io;
-use std::io::{BufWriter, Write};
+use std::io::Write;
 
 // A number after a space.
 fn print_field(out: &mut impl Write, n: u32) -> io::Result<()> {
@@ -76,7 +76,5 @@ fn print_table(out: &mut impl Write) -> io::Result<()> {
 }
 
 fn main(rt: HostRuntime) -> io::Result<()> {
-    let mut out = BufWriter::new(rt.alloc(), io::writer(&rt))?;
-    print_table(&mut out)?;
-    out.flush()
+    print_table(&mut io::writer(&rt))
 }

@@ -339,10 +339,12 @@ fn system_words(message: &str) -> &str {
     }
 }
 
-// Says why the program stops.
+// Says why the program stops. Where memory for the message is lacking, the number stays behind the system's words.
 fn report(rt: &(impl Eprint + AllocGlobal), failure: Failure) -> io::Result<()> {
-    let message = failure.to_string(rt.alloc())?;
-    eprintln!(rt; "convert: {}", system_words(message.as_str()))
+    match failure.to_string(rt.alloc()) {
+        Ok(message) => eprintln!(rt; "convert: {}", system_words(message.as_str())),
+        Err(_) => eprintln!(rt; "convert: {failure}"),
+    }
 }
 
 fn main(rt: HostRuntime) -> ExitCode {

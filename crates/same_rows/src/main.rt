@@ -10,7 +10,7 @@ use calendar::Year;
 use octets::find;
 use settings::read_type;
 use std::io;
-use std::io::{BufWriter, Read, Write};
+use std::io::{Read, Write};
 use types::{AnyType, Limits, TypeFound, Window, same_rows};
 
 // Limits with a window of years, and whether hour 24 is allowed.
@@ -181,7 +181,5 @@ fn read_full(input: &mut impl Read, room: &mut [u8]) -> io::Result<usize>
 fn main(rt: HostRuntime) -> io::Result<()> {
     let mut input = buffer();
     let n = read_full(&mut rt.reader(), &mut input)?;
-    let mut out = BufWriter::new(rt.alloc(), io::writer(&rt))?;
-    reply_all(&mut out, &input[..n])?;
-    out.flush()
+    reply_all(&mut io::writer(&rt), &input[..n])
 }
