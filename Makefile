@@ -1,6 +1,6 @@
 # make           the library, static and shared, and the programs, in build/
 # make build/libcodec.a build/libcalendar.a     each half of the library alone
-# make check     proves everything from nothing and runs every test
+# make check     proves everything that is not proved yet and runs every test
 # make install   into PREFIX, below DESTDIR where that is given
 # make clean     removes build/
 #

@@ -1,5 +1,6 @@
 /* anafzir: dates, times and durations of ASN.1 as unaligned PER or DER and back, a line of output for each input. The manual
- * page, man/anafzir.1, says what it promises. It is in C because a program in Rattle has no exit status.
+ * page, man/anafzir.1, says what it promises. It is in C because programs in Rattle had no exit
+ * status when it was written.
  *
  * Results are kept in a buffer, which is written out when it is full, before each read, before each message and at the end.
  * A failed read or write ends the program where it happens. */

@@ -42,7 +42,7 @@ ERROR = re.compile(r"(?:\./)?((?:src|specs|proofs)/\S+):\d+:\d+: error(?:\[[\w-]
 OPEN = re.compile(r"note: (?:\./)?src/(\S+)\.rt:(\d+):\d+: it is not proved .*\(`([^`]*)`\)")
 UNPROVED = re.compile(r"^fn \w+::(\S+): (?:not proved|no proof)\b", re.M)
 # a file of a function's proof, in its folder; any other file of proofs/ has laws
-OF_FUNCTION = re.compile(r"^proofs/(\S+)/(?:Answers|Invariants|Proof)\.antt$")
+OF_FUNCTION = re.compile(r"^proofs/(?!Laws/)(\S+)/(?:Answers|Invariants|Proof)\.antt$")
 RESTING = re.compile(r"(?:was|were) not checked")
 FOLLOWED = re.compile(r"^# code and proofs follow$", re.M)
 PART = re.compile(r"^# (\w+): refused at proofs/(\S+)(?: (\S+))?$", re.M)
@@ -268,6 +268,9 @@ def self_test():
     named, resting = "# d: refused at proofs/Laws/A.antt l\n", law.replace("`l`: the", "1 declaration that depends on `l` was not checked: the")
     if list(faults(named, law + fact, there, True)) or not list(faults(named, fact + law, there, True)) or not list(faults(named, resting, there)):
         sys.exit("must_fail_logs.py does not see which error is first, or of what it is")
+    called, said = (text.replace("A.antt", "Answers.antt") for text in (named, law))
+    if list(faults(called, said + fact, there, True)):
+        sys.exit("must_fail_logs.py takes a file of laws for that of a function")
     follows = "# code and proofs follow\n"
     if list(faults(follows, law + late, there, True)) or not all(list(faults(follows, law + log, there, True)) for log in (fact, opened)):
         sys.exit("must_fail_logs.py does not see where the code no longer follows")
