@@ -16,11 +16,9 @@ ROOT = Path(__file__).resolve().parent.parent
 PAGE = ROOT / "docs/promises/functions.md"
 
 # a public function at which no wrong program of its crate is refused, and why none is needed there
-NUMBERED = "a number for each case, as the definition has it; rows are compared by it, and the wrong programs of `same_rows` are of that"
 BY_NUMBER = "a case for each number, as the definition has it; `read_type` makes types by it, and has the wrong programs"
 EXCEPTIONS = {
     "year_of": "one case for each form, all alike; the year is tried where it is read, written and judged",
-    "date_number": NUMBERED, "clock_number": NUMBERED, "zone_number": NUMBERED,
     "date_at": BY_NUMBER, "clock_at": BY_NUMBER, "zone_at": BY_NUMBER,
     "Type::date": "built as the others are, whose wrong programs are `builder_without_hour_24` and `date_time_without_time`",
 }
@@ -35,7 +33,9 @@ at its contract.
 """
 
 FUNCTION = re.compile(r'^( *)((?:pub(?:\(crate\))? )?(?:const )?(?:extern "C" )?fn (\w+)[^{]*?)(?=\s(?:requires|ensures)\b|\s*\{)', re.M)
-OWNER = re.compile(r"^impl (\w+) \{", re.M)
+# a block of functions: of a type itself, or of a trait, with an argument, for it
+OWNER = re.compile(r"^impl(?:<[^>]*>)? (?:(\w+)(?:<(\w+)>)? for )?(\w+)(?:<[^>]*>)? \{", re.M)
+GIVEN = re.compile(r"^    ghost \w+_gives = \{.*?\};", re.M | re.S)
 PART = re.compile(r"^# (\w+): refused at (\S+)", re.M)
 # where a function is refused: its folder in proofs/; a file there may be named, and a law stands in a file of proofs/ itself or of Laws/
 PROOF = re.compile(r"^proofs/(?!Laws\b)([\w/]+?)(?:/(?:Answers|Invariants|Proof)\.antt)?$")
@@ -61,14 +61,15 @@ class Function:
     """A function of a crate: its module, which has no name for a function of `lib.rt` itself, its path in `proofs/`, its contract,
     and where it stands in the file."""
 
-    def __init__(self, module, text, match, owner):
+    def __init__(self, module, text, match, owner, given=None):
         self.module, self.name, self.owner = module, match[3], owner
         self.within = module if module != "lib" else None
         self.path = "/".join(filter(None, (self.within, owner, self.name)))
         self.shown = "::".join(filter(None, (owner, self.name)))
-        self.public = bool(PUBLIC.match(text, match.start(2)))
+        self.public = bool(PUBLIC.match(text, match.start(2)) or given)
         self.head = re.sub(r",\s*\)", ")", re.sub(r"\(\s+", "(", " ".join(match[2].split())))
         self.contract = [" ".join(f"{head} {{ {clause} }}".split()) for _, head, clause in clauses(text, match.end())]
+        self.contract += [" ".join(given.split())] if given else []
         at = match.end()
         while found := CLAUSE.match(text, at):
             at = end_of(text, found.end() - 1)
@@ -82,10 +83,12 @@ def functions(crate):
     found = {}
     for file in sorted((crate / "src").glob("**/*.rt")):
         text = bare(file.read_text("utf-8"))
-        blocks = [(owner.start(), end_of(text, owner.end() - 1), owner[1]) for owner in OWNER.finditer(text)]
+        blocks = [(owner.start(), end_of(text, owner.end() - 1), owner) for owner in OWNER.finditer(text)]
         for match in FUNCTION.finditer(text):
-            owner = next((name for start, end, name in blocks if start < match.start() < end), None)
-            function = Function(file.stem, text, match, owner)
+            start, end, owner = next((block for block in blocks if block[0] < match.start() < block[1]), (0, 0, None))
+            given = owner and owner[1] and GIVEN.search(text, start, end)
+            name = owner and "".join(part[0].upper() + part[1:] for part in (owner[3], owner[1], owner[2]) if part) if owner and owner[1] else owner and owner[3]
+            function = Function(file.stem, text, match, name, given and given[0])
             found[function.path] = function
     return found
 
@@ -93,9 +96,10 @@ def functions(crate):
 def called(function, all_functions, source):
     """The functions of its crate that a function calls."""
     used = {name: module for module, names in USED.findall(source) for name in re.findall(r"\w+", names)}
-    for owner, name in re.findall(r"(?:\b(\w+)::|\.)?\b(\w+)\(", function.body):
+    for owner, dot, name in re.findall(r"(?:\b(\w+)::|(\.))?\b(\w+)(?:::<\w+>)?\(", function.body):
         places = [name, f"{function.module}/{name}", f"{used.get(name)}/{name}"]
         places += [path for path in all_functions if path.endswith(f"/{owner or function.owner}/{name}")]
+        places += [path for path, other in all_functions.items() if dot and other.owner and other.name == name]
         yield from (all_functions[path] for path in places if path in all_functions)
 
 
@@ -187,20 +191,21 @@ def self_test():
         (crate / "src/a.rt").write_text(
             "use crate::b::{\n    A, far,\n};\nfn inner(x: u8) -> u8 {\n    x // outer()\n}\n"
             "pub fn outer(\n    x: u8,\n) -> u8\n    ensures value { result ≡ {A} x }\n{\n    inner(x)\n}\n"
+            "impl From<u8> for T {\n    ghost from_gives = { λ x t. t ≡ x };\n\n    fn from(x: u8) -> T {\n        T {}\n    }\n}\n"
             "impl T {\n    pub fn own(self) -> u8\n        ensures { result ≡ 1 }\n    {\n        1\n    }\n}\n"
             "pub fn bare() -> u8\n    ensures { result ≡ 2 }\n{\n    2\n}\n"
             "pub fn away() -> u8\n    ensures { result ≡ 5 }\n{\n    far()\n}\n", "utf-8")
         (crate / "src/b.rt").write_text("pub struct A {}\nfn far() -> u8 {\n    5\n}\n", "utf-8")
         (crate / "must-fail/together_1.edit").write_text(
             "# wrong: refused at proofs/a/inner\n# lower: refused at proofs/low/Answers.antt returns\n"
-            "# there: refused at proofs/b/far\n# definition_y: refused at proofs/Laws/A.antt b\n", "utf-8")
+            "# there: refused at proofs/b/far\n# made: refused at proofs/a/TFromU8/from\n# definition_y: refused at proofs/Laws/A.antt b\n", "utf-8")
         (crate / "must-fail/one.edit").write_text("file: src/a.rt\nold:         1\nnew:         0\n", "utf-8")
         (crate / "must-fail/definition_x.edit").write_text("file: src/a.rt\nold:     2\nnew:     3\n", "utf-8")
         made = list(libraries(Path(folder)))
         said = page(made)
         parts_of_it = (
             "outer(x: u8) -> u8\n    ensures value { result ≡ {A} x }\n", "`wrong` in `inner`", "`one`.", "### `planted::low`\n", "`lower`.",
-            "`there` in `far`.",
+            "`there` in `far`.", "fn from(x: u8) -> T\n    ghost from_gives = { λ x t. t ≡ x };\n", "`made`.",
         )
         if list(uncovered(made)) != [("planted::a::bare", "bare")] or not all(part in said for part in parts_of_it) or "definition_y" in said:
             sys.exit(f"functions.py does not find what it should:\n{said}")

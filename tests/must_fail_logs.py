@@ -38,8 +38,8 @@ UNFIT = re.compile(
     r"does not parse|operand is missing|expected the end|cannot continue"
 )
 ERROR = re.compile(r"(?:\./)?((?:src|specs|proofs)/\S+):\d+:\d+: error(?:\[[\w-]+\])?: (?:`([^`]*)`: )?")
-# what `search` was left to prove, since no file answers it, or none that fits
-OPEN = re.compile(r"note: (?:\./)?src/(\S+)\.rt:(\d+):\d+: it is not proved .*\(`([^`]*)`\)")
+# what `search` was left to prove, since no file answers it, or none that fits; or what it found values for at which it is false
+OPEN = re.compile(r"note: (?:\./)?src/(\S+)\.rt:(\d+):\d+: (?:it is not proved .*|`search` found no proof )\(`([^`]*)`\)")
 UNPROVED = re.compile(r"^fn \w+::(\S+): (?:not proved|no proof)\b", re.M)
 # a file of a function's proof, in its folder; any other file of proofs/ has laws
 OF_FUNCTION = re.compile(r"^proofs/(?!Laws/)(\S+)/(?:Answers|Invariants|Proof)\.antt$")

@@ -266,9 +266,10 @@ OCTETS = (
     ("under", "DURATION", "1F220430593144", "`P0Y1D`: a zero component before the last"),
 )
 
-# a table of words in the code, each after its length; a name that it compares a type's text with
-TABLE = re.compile(r'^const (\w+)_WORDS: \[u8; (\d+)\] =\s+\*b"([^"]*)";', re.M)
-NAME = re.compile(r'\bsame\(&\*text, b"([^"]+)"\)')
+# a table of words in the code, and a word of it; a name that it compares a type's text with
+TABLE = re.compile(r"^const (\w+)_WORDS: \[&\[u8\]; (\d+)\] = \[([^;]*)\];", re.M)
+WORD = re.compile(r'\bb"([^"]*)"')
+NAME = re.compile(r'\bsame\(text, b"([^"]+)"\)')
 
 # the number of a refusal in the page
 NUMBER = re.compile(r"refused(?:,| with) (\d)|^(\d)  ", re.M)
@@ -635,13 +636,9 @@ def words(source):
     """The words in the code's tables, by the name of the table."""
     found = {}
     for name, size, text in TABLE.findall(source):
-        octets = text.encode("ascii").decode("unicode_escape").encode("latin-1")
-        if len(octets) != int(size):
-            sys.exit(f"types_page.py: the table {name} has {len(octets)} octets, and not {size}")
-        found[name] = []
-        while octets:
-            found[name].append(octets[1:1 + octets[0]].decode("ascii"))
-            octets = octets[1 + octets[0]:]
+        found[name] = WORD.findall(text)
+        if len(found[name]) != int(size):
+            sys.exit(f"types_page.py: the table {name} has {len(found[name])} words, and not {size}")
     return found
 
 
@@ -747,8 +744,8 @@ def program_fault(program, asked):
 def self_test_of_faults():
     """A word, a name, a text and a range that are not there are found, and one that is there is not."""
     tables = words(
-        'const A_WORDS: [u8; 14] = *b"\\x06Date=Y\\x06Time=H";\n'
-        'const FRACTION_WORDS: [u8; 17] =\n    *b"\\x07Time=HF\\x08Time=HMF";\n')
+        'const A_WORDS: [&[u8]; 2] = [b"Date=Y", b"Time=H"];\n'
+        'const FRACTION_WORDS: [&[u8]; 2] = [\n    b"Time=HF",\n    b"Time=HMF",\n];\n')
     rows = [f"| `{word}` | x |\n" for word in ("Date=Y", "Time=H", "DATE", *(f"Time=HF{n}" for n in range(1, 10)))]
     lacking = [list(without_example("".join(rows[:k] + rows[k + 1:]), tables, ["DATE"])) for k in range(len(rows))]
     none = "Time=HMFn"

@@ -20,7 +20,7 @@ impl Outcome {
         ensures { result ≡ refusal why }
     {
         Outcome {
-            number: why.number(),
+            number: u32::from(why),
             bits: Bits { count: 0 },
             length: Octets { count: 0 },
         }
@@ -36,7 +36,7 @@ pub fn deliver(octets: &[u8], bits: Bits, room: &mut [u8]) -> Outcome
     if room.len() < count {
         return Outcome::refused(Refusal::Room);
     }
-    put_octets(room, 0, &*octets);
+    put_octets(room, 0, octets);
     Outcome {
         number: 0,
         bits,

@@ -2,30 +2,22 @@ ghost use Rattle.std.specs.Prelude.{◌≡◌};
 ghost use Rattle.answers.specs.Refusals.{number_of};
 
 // Why there is no result: the causes of the seven numbers, in their order.
-#[derive(Clone, Copy)]
+#[derive(Clone, Copy, PartialEq, Eq)]
 pub enum Refusal {
-    Settings,
-    Rows,
-    Form,
-    Existence,
-    Membership,
-    Encoding,
-    Room,
+    Settings = 1,
+    Rows = 2,
+    Form = 3,
+    Existence = 4,
+    Membership = 5,
+    Encoding = 6,
+    Room = 7,
 }
 
-impl Refusal {
-    // The number of a refusal.
-    pub fn number(self) -> u32
-        ensures { result ≡ number_of self }
-    {
-        match self {
-            Refusal::Settings => 1,
-            Refusal::Rows => 2,
-            Refusal::Form => 3,
-            Refusal::Existence => 4,
-            Refusal::Membership => 5,
-            Refusal::Encoding => 6,
-            Refusal::Room => 7,
-        }
+// The number of a refusal.
+impl From<Refusal> for u32 {
+    ghost from_gives = { λ why number. number ≡ number_of why };
+
+    fn from(why: Refusal) -> u32 {
+        why as u32
     }
 }

@@ -1,6 +1,5 @@
 -- The texts of points and of durations.
-use Rattle.std.specs.Prelude.{ℕ, List}
-use Rattle.std.proofs.Math.Option.{Option, some, none}
+use Rattle.std.specs.Prelude.{ℕ, List, Option, Some, None}
 use Rattle.texts.specs.Texts as Points
 use Rattle.texts.specs.Texts.{read_of}
 use Rattle.texts.specs.Times as Times
@@ -41,13 +40,13 @@ text_of v = render canonical v
 
 -- What is given, as a point.
 abbrev pub as_point : Option Value → Option AnyValue
-as_point (some v) = some (AnyValue.Point v)
-as_point none = none
+as_point (Some v) = Some (AnyValue.Point v)
+as_point None = None
 
 -- What is given, as a duration.
 abbrev pub as_duration : Option Duration → Option AnyValue
-as_duration (some d) = some (AnyValue.Duration d)
-as_duration none = none
+as_duration (Some d) = Some (AnyValue.Duration d)
+as_duration None = None
 
 -- What a text gives at a form, however it is spelled.
 abbrev pub read_text : AnyForm → List ℕ → Option AnyValue

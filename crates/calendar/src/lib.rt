@@ -4,7 +4,6 @@
 #![tactic(auto)]
 
 pub mod dates;
-pub mod exported;
 pub mod months;
 pub mod weeks;
 pub mod years;
@@ -12,4 +11,4 @@ pub mod years;
 pub use dates::{Date, date_exists};
 pub use months::month_length;
 pub use weeks::weeks_in_year;
-pub use years::{Astronomical, Distance, Year, leap_year, year_length};
+pub use years::{Distance, Year, leap_year, year_length};

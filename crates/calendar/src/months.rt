@@ -20,6 +20,6 @@ pub fn month_length(year: Year, month: u32) -> u32
     if 12 < month {
         return 0;
     }
-    let row: usize = if leap_year(year) { 1 } else { 0 };
+    let row = usize::from(leap_year(year));
     MONTH_LENGTHS[row][month as usize - 1]
 }

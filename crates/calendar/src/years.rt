@@ -1,10 +1,9 @@
 ghost use Rattle.std.specs.Prelude.{◌≡◌, pos, neg_ℤ};
-ghost use Rattle.std.specs.Int.Signed.{le_z};
 ghost use Rattle.calendar.specs.Years.{astronomical_of, distance_of, in32, leap_of, year_length_of};
 
 // A year. Its number is the astronomical year + 4294967600, a multiple of 400 above 32 bits: every year
 // that is a 32-bit number of years from 0000 has one, and the rules are plain remainders of it.
-#[derive(Clone, Copy)]
+#[derive(Clone, Copy, PartialEq, Eq, PartialOrd, Ord)]
 pub struct Year {
     pub number: u64,
 }
@@ -16,13 +15,6 @@ const LOWEST: u64 = 2147483952;
 
 const HIGHEST: u64 = 6442451247;
 
-// A year turned back into 32 bits: the astronomical year, or that it lies outside them.
-#[derive(Clone, Copy)]
-pub enum Astronomical {
-    Within(i32),
-    Outside,
-}
-
 // A year by its distance from the year 0000: so many years since it, or before it (then never 0).
 #[derive(Clone, Copy)]
 pub enum Distance {
@@ -30,28 +22,27 @@ pub enum Distance {
     Before(u64),
 }
 
-impl Year {
-    // The year with an astronomical number.
-    pub fn of(astronomical: i32) -> Year
-        ensures { astronomical_of result ≡ astronomical }
-    {
+// The year with an astronomical number.
+impl From<i32> for Year {
+    ghost from_gives = { λ astronomical year. astronomical_of year ≡ astronomical };
+
+    fn from(astronomical: i32) -> Year {
         Year {
             number: (astronomical as i64 + ZERO as i64) as u64,
         }
     }
+}
 
-    // The astronomical number of the year.
-    pub fn astronomical(self) -> Astronomical
+impl Year {
+    // The astronomical number of the year, where 32 bits hold it.
+    pub fn astronomical(self) -> Option<i32>
         ensures { result ≡ in32 (astronomical_of self) }
     {
         let number = self.number;
-        if number < LOWEST {
-            return Astronomical::Outside;
+        if number < LOWEST || HIGHEST < number {
+            return None;
         }
-        if HIGHEST < number {
-            return Astronomical::Outside;
-        }
-        Astronomical::Within((number as i64 - ZERO as i64) as i32)
+        Some((number as i64 - ZERO as i64) as i32)
     }
 
     // The year so many years since the year 0000.
@@ -81,13 +72,6 @@ impl Year {
             return Distance::Before(ZERO - number);
         }
         Distance::Since(number - ZERO)
-    }
-
-    // Whether the year is the other or an earlier one.
-    pub fn at_most(self, other: Year) -> bool
-        ensures { result ≡ le_z (astronomical_of self) (astronomical_of other) }
-    {
-        self.number <= other.number
     }
 }
 

@@ -4,7 +4,7 @@
 // field, or 256 times its first field and its second.
 #![tactic(auto)]
 
-use calendar::{Astronomical, Date, Distance, Year};
+use calendar::{Date, Distance, Year};
 use std::io;
 use std::io::Write;
 
@@ -74,7 +74,7 @@ fn print_form(out: &mut impl Write, form: Form, year: Year, end: u32) -> io::Res
     for index in 0..end {
         if calendar::date_exists(date_at(form, year, index)) {
             count += 1;
-            sum += index as u64;
+            sum += u64::from(index);
         }
     }
     print_pair(out, count, sum)
@@ -83,8 +83,8 @@ fn print_form(out: &mut impl Write, form: Form, year: Year, end: u32) -> io::Res
 // The year turned back into its astronomical number and made again.
 fn made_again(year: Year) -> Year {
     match year.astronomical() {
-        Astronomical::Within(y) => Year::of(y),
-        Astronomical::Outside => Year::since_zero(4294967295),
+        Some(y) => Year::from(y),
+        None => Year::since_zero(4294967295),
     }
 }
 
@@ -109,7 +109,7 @@ fn print_forms(out: &mut impl Write, year: Year) -> io::Result<()> {
 fn main(rt: HostRuntime) -> io::Result<()> {
     let mut out = io::writer(&rt);
     for year in YEARS {
-        print_forms(&mut out, Year::of(year))?;
+        print_forms(&mut out, Year::from(year))?;
     }
     Ok(())
 }

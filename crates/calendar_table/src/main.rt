@@ -21,7 +21,7 @@ fn print_year(out: &mut impl Write, year: Year) -> io::Result<()> {
 
 // The lengths of the twelve months.
 fn print_months(out: &mut impl Write, year: Year) -> io::Result<()> {
-    for month in 1..13 {
+    for month in 1..=12 {
         print_field(out, calendar::month_length(year, month))?;
     }
     Ok(())
@@ -30,7 +30,7 @@ fn print_months(out: &mut impl Write, year: Year) -> io::Result<()> {
 // A year's line.
 fn print_line(out: &mut impl Write, year: Year) -> io::Result<()> {
     print_year(out, year)?;
-    print_field(out, if calendar::leap_year(year) { 1 } else { 0 })?;
+    print_field(out, u32::from(calendar::leap_year(year)))?;
     print_field(out, calendar::year_length(year))?;
     print_field(out, calendar::weeks_in_year(year))?;
     print_months(out, year)?;
@@ -39,20 +39,18 @@ fn print_line(out: &mut impl Write, year: Year) -> io::Result<()> {
 
 // The years whose distances before the year 0000 fall from first to last.
 fn print_before(out: &mut impl Write, first: u32, last: u32) -> io::Result<()> {
-    let mut years = first;
-    while last < years {
+    for years in (last..=first).rev() {
         print_line(out, Year::before_zero(years))?;
-        years -= 1;
     }
-    print_line(out, Year::before_zero(last))
+    Ok(())
 }
 
 // The years whose distances since the year 0000 rise from first to last.
 fn print_since(out: &mut impl Write, first: u32, last: u32) -> io::Result<()> {
-    for years in first..last {
+    for years in first..=last {
         print_line(out, Year::since_zero(years))?;
     }
-    print_line(out, Year::since_zero(last))
+    Ok(())
 }
 
 // The ends of 32 bits and of nine, five and four digits on both sides, the years about 0000, the years about

@@ -1,11 +1,10 @@
-ghost use Rattle.std.specs.Prelude.{◌≡◌, cond};
+ghost use Rattle.std.specs.Prelude.{◌≡◌};
 ghost use Rattle.answers.specs.Outcomes.{outcome_of, room_of};
-ghost use Rattle.answers.specs.declared.refusals.Refusal.{Refusal};
 ghost use Rattle.types.specs.AnyTypes.{duration_type, name_of};
 ghost use Rattle.types.specs.declared.types.AnyType.{AnyType};
 ghost use Rattle.exchanges.specs.Coding.{answer_of, answer_under, per_encode, per_decode, der_encode, der_decode};
 
-use answers::{Outcome, Refusal};
+use answers::Outcome;
 use exchanges::Entry;
 use settings::read_type;
 use types::{Limits, Name, Type, TypeFound};
@@ -20,26 +19,16 @@ fn duration_name(listed: bool) -> Name
     Name::Duration
 }
 
-// The refusal where there is no type: readable lists that share no row, or what can't be read.
-fn no_type(rowless: bool) -> Refusal
-    ensures { result ≡ cond rowless Refusal.Rows Refusal.Settings }
-{
-    if rowless {
-        return Refusal::Rows;
-    }
-    Refusal::Settings
-}
-
 // Puts what an entry point gives under a point's type at the front of the room, or refuses.
 fn answer_point(entry: Entry, t: Type, input: &[u8], room: &mut [u8]) -> Outcome
     ensures value { result ≡ outcome_of (answer_under entry (AnyType.Point t) input.now) room.old }
     ensures room_after { room.new ≡ room_of (answer_under entry (AnyType.Point t) input.now) room.old }
 {
     match entry {
-        Entry::PerEncode => per::encode(t, &*input, room),
-        Entry::PerDecode => per::decode(t, &*input, room),
-        Entry::DerEncode => der::encode(t, &*input, room),
-        Entry::DerDecode => der::decode(t, &*input, room),
+        Entry::PerEncode => per::encode(t, input, room),
+        Entry::PerDecode => per::decode(t, input, room),
+        Entry::DerEncode => der::encode(t, input, room),
+        Entry::DerDecode => der::decode(t, input, room),
     }
 }
 
@@ -51,10 +40,10 @@ fn answer_duration(entry: Entry, listed: bool, input: &[u8], room: &mut [u8]) ->
 {
     let name = duration_name(listed);
     match entry {
-        Entry::PerEncode => per::encode_duration(&*input, room),
-        Entry::PerDecode => per::decode_duration(&*input, room),
-        Entry::DerEncode => der::encode_duration(name, &*input, room),
-        Entry::DerDecode => der::decode_duration(name, &*input, room),
+        Entry::PerEncode => per::encode_duration(input, room),
+        Entry::PerDecode => per::decode_duration(input, room),
+        Entry::DerEncode => der::encode_duration(name, input, room),
+        Entry::DerDecode => der::decode_duration(name, input, room),
     }
 }
 
@@ -70,11 +59,11 @@ pub fn answer(
     ensures value { result ≡ outcome_of (answer_of entry settings.now limits input.now) room.old }
     ensures room_after { room.new ≡ room_of (answer_of entry settings.now limits input.now) room.old }
 {
-    let read = read_type(&*settings, limits);
+    let read = read_type(settings, limits);
     match read {
-        TypeFound::Point(t) => answer_point(entry, t, &*input, room),
-        TypeFound::Duration(listed) => answer_duration(entry, listed, &*input, room),
-        TypeFound::NoType(rowless) => Outcome::refused(no_type(rowless)),
+        TypeFound::Point(t) => answer_point(entry, t, input, room),
+        TypeFound::Duration(listed) => answer_duration(entry, listed, input, room),
+        TypeFound::NoType(why) => Outcome::refused(why),
     }
 }
 
@@ -83,7 +72,7 @@ pub fn per_encode(settings: &[u8], limits: Limits, text: &[u8], room: &mut [u8])
     ensures value { result ≡ outcome_of (per_encode settings.now limits text.now) room.old }
     ensures room_after { room.new ≡ room_of (per_encode settings.now limits text.now) room.old }
 {
-    answer(Entry::PerEncode, &*settings, limits, &*text, room)
+    answer(Entry::PerEncode, settings, limits, text, room)
 }
 
 // Puts the canonical text of octets in unaligned PER at the front of the room, or refuses.
@@ -91,7 +80,7 @@ pub fn per_decode(settings: &[u8], limits: Limits, octets: &[u8], room: &mut [u8
     ensures value { result ≡ outcome_of (per_decode settings.now limits octets.now) room.old }
     ensures room_after { room.new ≡ room_of (per_decode settings.now limits octets.now) room.old }
 {
-    answer(Entry::PerDecode, &*settings, limits, &*octets, room)
+    answer(Entry::PerDecode, settings, limits, octets, room)
 }
 
 // Puts the octets of a text in DER at the front of the room, or refuses.
@@ -99,7 +88,7 @@ pub fn der_encode(settings: &[u8], limits: Limits, text: &[u8], room: &mut [u8])
     ensures value { result ≡ outcome_of (der_encode settings.now limits text.now) room.old }
     ensures room_after { room.new ≡ room_of (der_encode settings.now limits text.now) room.old }
 {
-    answer(Entry::DerEncode, &*settings, limits, &*text, room)
+    answer(Entry::DerEncode, settings, limits, text, room)
 }
 
 // Puts the canonical text of octets in DER at the front of the room, or refuses.
@@ -107,5 +96,5 @@ pub fn der_decode(settings: &[u8], limits: Limits, octets: &[u8], room: &mut [u8
     ensures value { result ≡ outcome_of (der_decode settings.now limits octets.now) room.old }
     ensures room_after { room.new ≡ room_of (der_decode settings.now limits octets.now) room.old }
 {
-    answer(Entry::DerDecode, &*settings, limits, &*octets, room)
+    answer(Entry::DerDecode, settings, limits, octets, room)
 }

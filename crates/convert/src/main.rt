@@ -5,19 +5,23 @@
 #![tactic(auto)]
 
 mod failure;
+mod output;
+mod unfinished;
 
-ghost use Rattle.std.specs.Prelude.{◌+◌, ◌-◌, ◌<◌, ◌≤◌, ◌≡◌, take, length, slice_range, IfOk};
+ghost use Rattle.std.specs.Prelude.{◌-◌, ◌<◌, ◌≤◌, ◌≡◌, take, length, slice_range, IfOk, IfSome};
 ghost use Rattle.line_replies.specs.Lines.{longest_line};
-ghost use Rattle.line_replies.specs.Rooms.{reply_capacity};
+ghost use Rattle.convert.specs.Unfinished.{held_of};
 
 use failure::Failure;
-use lines::{LONGEST, REPLY_CAPACITY, reply};
+use lines::LONGEST;
 use octets::find;
+use output::Output;
 use std::io::{ErrorKind, Read};
 use std::process::ExitCode;
 use std::rt::Clock;
 use std::time::Duration;
 use std::{io, thread};
+use unfinished::Unfinished;
 
 // Whether the call that failed just now may be made again: a signal came first, or the other end is not ready yet. There is
 // no call here that waits until it is, so this waits for a millisecond.
@@ -54,9 +58,10 @@ fn write_some(rt: &(impl Print + Clock), replies: &[u8]) -> Result<usize, Failur
 
 // Writes replies out.
 fn write_out(rt: &(impl Print + Clock), replies: &[u8]) -> Result<(), Failure> {
-    let mut done = 0;
-    while done < replies.len() {
-        done += write_some(rt, &replies[done..])?;
+    let mut rest = replies;
+    while !rest.is_empty() {
+        let taken = write_some(rt, rest)?;
+        rest = &rest[taken..];
     }
     Ok(())
 }
@@ -78,65 +83,26 @@ fn read_more(rt: &impl Clock, reader: &mut impl Read, room: &mut [u8]) -> Result
     Err(Failure::Input(io::Error::from(ErrorKind::TimedOut)))
 }
 
-// Writes the replies out where another might not have its place behind them. How many octets of replies stand in the output's
-// buffer then.
-fn make_place(rt: &(impl Print + Clock), output: &[u8], used: usize) -> Result<usize, Failure>
-    requires used { used ≤ length output.now }
-    requires capacity { reply_capacity ≤ length output.now }
-    ensures { IfOk result (λ place. place + reply_capacity ≤ length output.now) }
-{
-    if REPLY_CAPACITY <= output.len() - used {
-        return Ok(used);
-    }
-    write_out(rt, &output[..used])?;
-    Ok(0)
-}
-
-// Puts the reply to a line behind those that are there. How many octets of replies there are now.
-fn put_reply(
-    rt: &(impl Print + Clock),
-    line: &[u8],
-    output: &mut [u8],
-    used: usize,
-) -> Result<usize, Failure>
-    requires used { used ≤ length output.old }
-    requires capacity { reply_capacity ≤ length output.old }
-    ensures { IfOk result (λ end. end ≤ length output.old) }
-{
-    let place = make_place(rt, output, used)?;
-    Ok(place + reply(line, &mut output[place..]))
-}
-
-// How far the lines of a read have been replied to, and how many octets of replies there are now.
-#[derive(Clone, Copy)]
-struct Progress {
-    start: usize,
-    used: usize,
-}
-
-// Replies to all lines that end in the text, from a place on.
+// Replies to all lines that end in the text, from a place on. The place after the last of them.
 fn reply_all(
     rt: &(impl Print + Clock),
     text: &[u8],
     start: usize,
-    output: &mut [u8],
-) -> Result<Progress, Failure>
-    requires start { start ≤ length text.now }
-    requires capacity { reply_capacity ≤ length output.old }
-    ensures start { IfOk result (λ progress. progress.start ≤ length text.now) }
-    ensures used { IfOk result (λ progress. progress.used ≤ length output.old) }
+    output: &mut Output,
+) -> Result<usize, Failure>
+    requires { start ≤ length text.now }
+    ensures { IfOk result (λ place. place ≤ length text.now) }
 {
     let mut from = start;
-    let mut used = 0;
     while from < text.len() {
         let end = find(text, from, b'\n');
         if text.len() <= end {
             break;
         }
-        used = put_reply(rt, &text[from..end], output, used)?;
+        output.put_reply(rt, &text[from..end])?;
         from = end + 1;
     }
-    Ok(Progress { start: from, used })
+    Ok(from)
 }
 
 // Moves the octets between two places of the input's buffer to its front.
@@ -148,72 +114,27 @@ fn move_front(input: &mut [u8], start: usize, end: usize)
     input.copy_within(start..end, 0);
 }
 
-// What is kept between reads: so many octets of an unfinished line at the front of the input's buffer, whether the rest
-// of that line is skipped because it is too long, and whether to read on.
-#[derive(Clone, Copy)]
-struct State {
-    held: usize,
-    skipping: bool,
-    more: bool,
-}
-
-// The input has ended: of an unfinished line, so many octets are to be replied to.
-fn ended(held: usize) -> State
-    ensures { result.held ≡ held }
-{
-    State {
-        held,
-        skipping: false,
-        more: false,
-    }
-}
-
-// Writes the replies out, the last one to a line that is too long already, the rest of which is skipped.
-fn skip_line(
-    rt: &(impl Print + Clock),
-    line: &[u8],
-    output: &mut [u8],
-    used: usize,
-) -> Result<State, Failure>
-    requires used { used ≤ length output.old }
-    requires capacity { reply_capacity ≤ length output.old }
-    ensures { IfOk result (λ state. state.held ≡ 0) }
-{
-    let end = put_reply(rt, line, output, used)?;
-    write_out(rt, &output[..end])?;
-    Ok(State {
-        held: 0,
-        skipping: true,
-        more: true,
-    })
-}
-
-// Writes the replies out, and keeps the start of a line at the front of the input's buffer.
+// Writes the replies out, and keeps the start of a line at the front of the input's buffer. Of a line that is too long already, the
+// reply is among those, and nothing is kept.
 fn keep(
     rt: &(impl Print + Clock),
     input: &mut [u8],
     start: usize,
     end: usize,
-    output: &mut [u8],
-    used: usize,
-) -> Result<State, Failure>
+    output: &mut Output,
+) -> Result<Unfinished, Failure>
     requires order { start ≤ end }
     requires within { end ≤ length input.old }
-    requires used { used ≤ length output.old }
-    requires capacity { reply_capacity ≤ length output.old }
-    ensures { IfOk result (λ state. state.held ≤ longest_line) }
+    ensures { IfOk result (λ line. held_of line ≤ longest_line) }
 {
-    let held = end - start;
-    if LONGEST < held {
-        return skip_line(rt, &input[start..end], output, used);
+    if LONGEST < end - start {
+        output.put_reply(rt, &input[start..end])?;
+        output.write(rt)?;
+        return Ok(Unfinished::Skipped);
     }
-    write_out(rt, &output[..used])?;
+    output.write(rt)?;
     move_front(input, start, end);
-    Ok(State {
-        held,
-        skipping: false,
-        more: true,
-    })
+    Ok(Unfinished::Held(end - start))
 }
 
 // Replies to the lines between two places of the input's buffer, and keeps what follows the last of them.
@@ -222,62 +143,56 @@ fn reply_between(
     input: &mut [u8],
     start: usize,
     end: usize,
-    output: &mut [u8],
-) -> Result<State, Failure>
+    output: &mut Output,
+) -> Result<Unfinished, Failure>
     requires order { start ≤ end }
     requires within { end ≤ length input.old }
-    requires capacity { reply_capacity ≤ length output.old }
-    ensures { IfOk result (λ state. state.held ≤ longest_line) }
+    ensures { IfOk result (λ line. held_of line ≤ longest_line) }
 {
-    let progress = reply_all(rt, &input[..end], start, output)?;
-    keep(rt, input, progress.start, end, output, progress.used)
+    let place = reply_all(rt, &input[..end], start, output)?;
+    keep(rt, input, place, end, output)
 }
 
 // Replies to the lines of the input's first octets, behind the rest of a line that is skipped.
-fn reply_to(
+fn skip_line(
     rt: &(impl Print + Clock),
     input: &mut [u8],
     end: usize,
-    output: &mut [u8],
-    skipping: bool,
-) -> Result<State, Failure>
-    requires within { end ≤ length input.old }
-    requires capacity { reply_capacity ≤ length output.old }
-    ensures { IfOk result (λ state. state.held ≤ longest_line) }
+    output: &mut Output,
+) -> Result<Unfinished, Failure>
+    requires { end ≤ length input.old }
+    ensures { IfOk result (λ line. held_of line ≤ longest_line) }
 {
-    if !skipping {
-        return reply_between(rt, input, 0, end, output);
-    }
     let newline = find(&input[..end], 0, b'\n');
     if end <= newline {
-        return Ok(State {
-            held: 0,
-            skipping: true,
-            more: true,
-        });
+        return Ok(Unfinished::Skipped);
     }
     reply_between(rt, input, newline + 1, end, output)
 }
 
-// One read of the input, with the replies to the lines that end in it.
+// One read of the input behind what is kept of a line, with the replies to the lines that end in it. What is kept then, unless the
+// input has ended.
 fn read_some(
     rt: &(impl Print + Clock),
     reader: &mut impl Read,
     input: &mut [u8],
-    output: &mut [u8],
-    state: State,
-) -> Result<State, Failure>
-    requires held { state.held ≤ longest_line }
+    line: Unfinished,
+    output: &mut Output,
+) -> Result<Option<Unfinished>, Failure>
+    requires held { held_of line ≤ longest_line }
     requires room { longest_line < length input.old }
-    requires capacity { reply_capacity ≤ length output.old }
-    ensures { IfOk result (λ next. next.held ≤ longest_line) }
+    ensures { IfOk result (λ next. IfSome next (λ line. held_of line ≤ longest_line)) }
 {
-    let held = state.held;
+    let held = line.held();
     let got = read_more(rt, reader, &mut input[held..])?;
     if got == 0 {
-        return Ok(ended(held));
+        return Ok(None);
     }
-    reply_to(rt, input, held + got, output, state.skipping)
+    let next = match line {
+        Unfinished::Held(_) => reply_between(rt, input, 0, held + got, output)?,
+        Unfinished::Skipped => skip_line(rt, input, got, output)?,
+    };
+    Ok(Some(next))
 }
 
 // Reads and replies until the input ends. How many octets are held of a line that lacks its newline.
@@ -285,48 +200,34 @@ fn read_all(
     rt: &(impl Print + Clock),
     reader: &mut impl Read,
     input: &mut [u8],
-    output: &mut [u8],
+    output: &mut Output,
 ) -> Result<usize, Failure>
-    requires room { longest_line < length input.old }
-    requires capacity { reply_capacity ≤ length output.old }
+    requires { longest_line < length input.old }
     ensures { IfOk result (λ held. held ≤ longest_line) }
 {
-    let mut state = State {
-        held: 0,
-        skipping: false,
-        more: true,
-    };
+    let mut line = Unfinished::Held(0);
     for _ in 0..u64::MAX {
-        if !state.more {
+        let Some(next) = read_some(rt, reader, input, line, output)? else {
             break;
-        }
-        state = read_some(rt, reader, input, output, state)?;
+        };
+        line = next;
     }
-    Ok(state.held)
+    Ok(line.held())
 }
 
 // Replies to a last line that lacks its newline.
-fn finish(rt: &(impl Print + Clock), line: &[u8], output: &mut [u8]) -> Result<(), Failure>
-    requires { reply_capacity ≤ length output.old }
-{
+fn finish(rt: &(impl Print + Clock), line: &[u8], output: &mut Output) -> Result<(), Failure> {
     if line.is_empty() {
         return Ok(());
     }
-    let end = reply(line, output);
-    write_out(rt, &output[..end])
-}
-
-// Room for much input, or for many replies.
-fn buffer() -> [u8; 65536]
-    ensures { 65536 ≡ length result }
-{
-    [0; 65536]
+    output.put_reply(rt, line)?;
+    output.write(rt)
 }
 
 // Replies to all lines of the input.
 fn run(rt: &(impl Print + Clock), reader: &mut impl Read) -> Result<(), Failure> {
-    let mut input = buffer();
-    let mut output = buffer();
+    let mut input = [0; 65536];
+    let mut output = Output::new();
     let held = read_all(rt, reader, &mut input, &mut output)?;
     finish(rt, &input[..held], &mut output)
 }

@@ -1,6 +1,5 @@
 -- DER of points and durations. A type's tag goes by its name.
-use Rattle.std.specs.Prelude.{ℕ, cond, List}
-use Rattle.std.proofs.Math.Option.{Option, some, none}
+use Rattle.std.specs.Prelude.{ℕ, cond, List, Option, Some, None}
 use Rattle.octets.specs.Octets.{eq_list}
 use Rattle.answers.specs.Outcomes.{Answer, done, refused}
 use Rattle.answers.specs.declared.refusals.Refusal.{Refusal}
@@ -47,11 +46,11 @@ der_decoded t octets = decoded der t octets
 
 -- What encoding the text of a duration answers under a name, by what is read.
 abbrev pub encoded_duration : Name → Option Duration → Answer
-encoded_duration name (some d) = done (element name (contents_of name (duration_text d))) no_bits
-encoded_duration name none = refused Refusal.Form
+encoded_duration name (Some d) = done (element name (contents_of name (duration_text d))) no_bits
+encoded_duration name None = refused Refusal.Form
 
 -- What decoding the octets of a duration answers under a name, by what is read.
 abbrev pub decoded_duration : Name → List ℕ → Option Duration → Answer
-decoded_duration name octets (some d) =
+decoded_duration name octets (Some d) =
     cond (eq_list octets (element name (contents_of name (duration_text d)))) (done (duration_text d) no_bits) (refused Refusal.Encoding)
-decoded_duration name octets none = refused Refusal.Form
+decoded_duration name octets None = refused Refusal.Form

@@ -1,9 +1,8 @@
 -- What is read leniently: the contents in any spelling of the text, and any octets after them.
-use Rattle.std.specs.Prelude.{ℕ, ◌≤◌, ◌≡◌, true, List, ◌∷◌, ◌++◌, length, take, drop}
+use Rattle.std.specs.Prelude.{ℕ, ◌≤◌, ◌≡◌, true, List, ◌∷◌, ◌++◌, length, take, drop, Some}
 use Rattle.texts.specs.Octets.{letter_t}
 use Rattle.texts.specs.Texts.{read_of, render}
 use Rattle.texts.specs.declared.forms.Form.{Form}
-use Rattle.texts.specs.declared.texts.TextRead.{TextRead}
 use Rattle.texts.specs.declared.values.Spelling.{Spelling}
 use Rattle.texts.specs.declared.values.Value.{Value}
 use Rattle.types.specs.declared.types.Name.{Name}
@@ -28,7 +27,7 @@ pub record ReadableElement (name : Name) (form : Form) (value : Value) (octets r
   pub spelling : Spelling
   pub short : length contents ≤ 127
   pub text : StandsFor name contents (render spelling value)
-  pub formed : read_of form (render spelling value) ≡ TextRead.Value value spelling
+  pub formed : read_of form (render spelling value) ≡ Some (value, spelling)
   pub stood : octets ≡ element name contents ++ rest
 
 -- That contents stand for a duration's text: under 0E they are it, and under 1F 22 it is they after `P` (#101).

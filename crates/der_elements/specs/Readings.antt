@@ -1,5 +1,5 @@
 -- "Octets": what an element gives, however it should have been written. Octets after it are left.
-use Rattle.std.specs.Prelude.{ℕ, ◌+◌, Bool, true, ◌&&◌, cond, List, [], ◌∷◌, ◌++◌, eqb, leb, length, take, drop}
+use Rattle.std.specs.Prelude.{ℕ, Bool, true, ◌&&◌, cond, List, [], ◌∷◌, ◌++◌, eqb, leb, length, take, drop, Option, None}
 use Rattle.octets.specs.Octets.{eq_list}
 use Rattle.texts.specs.Octets.{hyphen, colon, letter_t, is_digit}
 use Rattle.texts.specs.Texts.{read_of}
@@ -8,7 +8,6 @@ use Rattle.texts.specs.declared.values.Value.{Value}
 use Rattle.durations.specs.Texts.{letter_p, read_duration}
 use Rattle.durations.specs.declared.Duration.{Duration}
 use Rattle.types.specs.declared.types.Name.{Name}
-use Rattle.std.proofs.Math.Option.{Option, none}
 use Rattle.held_values.specs.Encodings.{of_text}
 use Rattle.der_elements.specs.Elements.{tag_of}
 
@@ -37,33 +36,28 @@ timed = separated colon 2
 -- they are no point's.
 abbrev pub read_contents : Name → Form → List ℕ → Option Value
 read_contents Name.Listed form l = of_text (read_of form l)
-read_contents Name.Date form l = cond (digits_only 8 l) (of_text (read_of form (dated l))) none
-read_contents Name.TimeOfDay form l = cond (digits_only 6 l) (of_text (read_of form (timed l))) none
-read_contents Name.DateTime form l = cond (digits_only 14 l) (of_text (read_of form (dated (take 8 l) ++ letter_t ∷ timed (drop 8 l)))) none
-read_contents Name.Duration form l = none
+read_contents Name.Date form l = cond (digits_only 8 l) (of_text (read_of form (dated l))) None
+read_contents Name.TimeOfDay form l = cond (digits_only 6 l) (of_text (read_of form (timed l))) None
+read_contents Name.DateTime form l = cond (digits_only 14 l) (of_text (read_of form (dated (take 8 l) ++ letter_t ∷ timed (drop 8 l)))) None
+read_contents Name.Duration form l = None
 
 -- The contents of a duration: under 0E they are the text, and under 1F 22 the text without its `P` (#101).
 abbrev pub read_duration_contents : Name → List ℕ → Option Duration
 read_duration_contents Name.Listed l = read_duration l
-read_duration_contents Name.Date l = none
-read_duration_contents Name.TimeOfDay l = none
-read_duration_contents Name.DateTime l = none
+read_duration_contents Name.Date l = None
+read_duration_contents Name.TimeOfDay l = None
+read_duration_contents Name.DateTime l = None
 read_duration_contents Name.Duration l = read_duration (letter_p ∷ l)
 
 -- 3: "the DER length above 127, missing, or above the octets that follow"; else what the contents give.
 abbrev pub within_length : {A : Type 0} → (List ℕ → Option A) → List ℕ → Option A
-within_length contents [] = none
-within_length contents (n ∷ l) = cond (leb n 127 && leb n (length l)) (contents (take n l)) none
-
--- The place after the contents that a length tells of; 0 where there are none such.
-abbrev pub contents_end : List ℕ → ℕ
-contents_end [] = 0
-contents_end (n ∷ l) = cond (leb n 127 && leb n (length l)) (n + 1) 0
+within_length contents [] = None
+within_length contents (n ∷ l) = cond (leb n 127 && leb n (length l)) (contents (take n l)) None
 
 -- 3: "tag wrong"; else what follows it gives.
 abbrev pub under_tag : {A : Type 0} → Name → (List ℕ → Option A) → List ℕ → Option A
 under_tag name contents octets =
-    cond (eq_list (take (length (tag_of name)) octets) (tag_of name)) (within_length contents (drop (length (tag_of name)) octets)) none
+    cond (eq_list (take (length (tag_of name)) octets) (tag_of name)) (within_length contents (drop (length (tag_of name)) octets)) None
 
 -- What the length and the contents of a point give.
 abbrev pub read_length : Name → Form → List ℕ → Option Value

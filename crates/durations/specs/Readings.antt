@@ -1,6 +1,5 @@
 -- What is to be read for a duration, with no regard to which components should be there or how a number should have been written.
-use Rattle.std.specs.Prelude.{ℕ, zero, suc, ◌+◌, ◌^◌, false, ◌&&◌, cond, List, [], ◌∷◌, leb, ltb}
-use Rattle.std.proofs.Math.Option.{Option}
+use Rattle.std.specs.Prelude.{ℕ, zero, suc, ◌+◌, ◌^◌, false, ◌&&◌, cond, List, [], ◌∷◌, leb, ltb, Option}
 use Rattle.octets.specs.Found.{of_found}
 use Rattle.fields.specs.Bits.{unpacked}
 use Rattle.fields.specs.Readings.{Reading, give, ◌>>=◌, a_ranged, a_natural, require, run}

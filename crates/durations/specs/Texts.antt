@@ -1,11 +1,10 @@
 -- The text of a duration: 34 bis.3.6 of X.680.
-use Rattle.std.specs.Prelude.{ℕ, suc, ◌-◌, ◌/◌, ◌^◌, Bool, false, ◌&&◌, ◌||◌, cond, List, [], ◌∷◌, ◌++◌, eqb, leb, ltb, drop, take, length}
+use Rattle.std.specs.Prelude.{ℕ, suc, ◌-◌, ◌/◌, ◌^◌, Bool, false, ◌&&◌, ◌||◌, cond, List, [], ◌∷◌, ◌++◌, eqb, leb, ltb, drop, take, length, Option, Some, None}
 use Rattle.texts.specs.Octets.{comma, stop, letter_t, letter_w, first_octet}
 use Rattle.octets.specs.Found.{Found, found, nothing, onward}
 use Rattle.texts.specs.Digits.{put_digits, get_digits, leading}
 use Rattle.texts.specs.Times.{put_fraction, get_fraction}
 use Rattle.texts.specs.Years.{size_in}
-use Rattle.std.proofs.Math.Option.{Option, some, none}
 use Rattle.durations.specs.declared.Duration.{Duration}
 use Rattle.durations.specs.Parts.{Part, absent, present, any_present, well_made}
 use Rattle.durations.specs.Durations.{spelled_parts, duration_of}
@@ -98,9 +97,9 @@ get_duration l =
 
 -- Components that make a duration, where nothing is left of the text.
 abbrev pub whole_duration : Found ℕ (List Part) → Option Duration
-whole_duration (found ps []) = cond (well_made ps) (some (duration_of ps)) none
-whole_duration (found ps (x ∷ r)) = none
-whole_duration nothing = none
+whole_duration (found ps []) = cond (well_made ps) (Some (duration_of ps)) None
+whole_duration (found ps (x ∷ r)) = None
+whole_duration nothing = None
 
 -- What a text gives: a duration, its zero components gone; or nothing.
 unfoldable pub read_duration : List ℕ → Option Duration
@@ -130,8 +129,8 @@ duration_text d = render_duration canonical d
 
 -- The canonical text of what was read; nothing where nothing was.
 abbrev pub canonical_of : Option Duration → Option (List ℕ)
-canonical_of (some d) = some (duration_text d)
-canonical_of none = none
+canonical_of (Some d) = Some (duration_text d)
+canonical_of None = None
 
 -- A text made canonical; nothing where it is no duration's.
 abbrev pub made_canonical : List ℕ → Option (List ℕ)

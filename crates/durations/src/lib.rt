@@ -18,10 +18,3 @@ pub struct Duration {
     pub digits: u32,
     pub fraction: u32,
 }
-
-// What a text or octets give: a duration, or nothing that can be read as one.
-#[derive(Clone, Copy)]
-pub enum DurationRead {
-    Duration(Duration),
-    Nothing,
-}

@@ -1,14 +1,14 @@
 -- The theorems: each claim of specs/Demands.antt is proved under its name. What they rest on stands in Laws/Exchanges and Laws/Causes, for any kind.
+use Rattle.std.specs.Prelude.{Option, Some, None, Result, Ok, Err}
 use mathlib.Core.Logic.{◌≢◌}
 use mathlib.Core.Path.{◌≡◌, refl, ap, sym, ◌∙◌}
 use mathlib.Core.Bool.{Bool, true}
 use mathlib.Core.List.{List}
-use mathlib.Core.Option.{Option, some, none}
 use Prim.Native.Nat.{ℕ}
 use native.Mathlib.Omega.{arith}
 use lib.Dec.{eqb}
 use borrow.Author.Tests.{eq-eqb, ne_eqb}
-use Rattle.octets.specs.Found.{Found, found, nothing}
+use Rattle.octets.specs.Found.{Found, found, nothing, of_found}
 use Rattle.octets.proofs.Laws.Cases.{both}
 use Rattle.answers.specs.Outcomes.{Answer, outcome_of, refused}
 use Rattle.answers.specs.declared.refusals.Refusal.{Refusal}
@@ -25,17 +25,15 @@ use Rattle.types.proofs.Laws.Durations.{OfDurations, as_listed, named}
 use Rattle.type_texts.specs.TypeTexts.{type_of}
 use Rattle.type_texts.proofs.Laws.WellFormed.{read_well-formed}
 use Rattle.held_values.specs.Admission.{admission_number, admitted, judged, judgement_number}
-use Rattle.held_values.specs.declared.admission.Admission.{Admission}
-use Rattle.held_values.specs.declared.admission.Judgement.{Judgement}
 use Rattle.rows.specs.Fields.{year_row_of}
 use Rattle.rows.specs.Readings.{read_octets}
 use Rattle.rows.proofs.Laws.SameRows.{same-rows}
-use Rattle.unpacking.specs.Unpacked.{value_in, value_number}
+use Rattle.unpacking.specs.Unpacked.{value_number}
 use Rattle.kinds.specs.Kinds.{Encoding, holds}
 use Rattle.kinds.specs.Lawful.{Holds}
 use Rattle.kinds.proofs.Laws.Coding as Coding
 use Rattle.held_values.proofs.Laws.Encodings.{admission_answer, answer_with, encoded-admitted, judged-as}
-use Rattle.durations.specs.Answers.{duration_in, duration_number}
+use Rattle.durations.specs.Answers.{duration_number}
 use Rattle.durations.specs.Readings.{duration_in_octets}
 use Rattle.durations.specs.Texts.{read_duration}
 use Rattle.durations.specs.declared.Duration.{Duration}
@@ -62,7 +60,6 @@ use Rattle.exchanges.specs.Demands.{answer_in_c, encodes, decodes, BitsTold, Dem
 use Rattle.exchanges.specs.Demands.{CanonicalTwice, DurationsTold, LimitsFromC, LimitsTold, PointsAsBefore, SevenNumbers, TextsTold, TypesTold}
 use Rattle.exchanges.specs.Demands.{ValuesTold}
 use Rattle.exchanges.specs.declared.entries.Entry.{Entry}
-use Rattle.exchanges.specs.declared.limits.LimitsRead.{LimitsRead}
 use Rattle.exchanges.proofs.Laws.Causes.{number-given}
 use Rattle.exchanges.proofs.Laws.Exchanges.{comes_back, meets_2, meets_3, no_answer, written}
 
@@ -78,7 +75,7 @@ pub limits_from_c : LimitsFromC
 unfolding limits_given window_given
 limits_from_c given = record {
   limits_are = λ z.
-      let g : limits_given given ≡ LimitsRead.Limits (record { window = window_given given; hour24 = eqb given.no24 0 }) =
+      let g : limits_given given ≡ Some (record { window = window_given given; hour24 = eqb given.no24 0 }) =
       simp (eq-eqb given.counts 0 z) in (
         record { window = window_given given; hour24 = eqb given.no24 0 },
         record {
@@ -118,7 +115,7 @@ unfolding answer_of
 demand_3_per settings₁ limits₁ w e₁ settings₂ limits₂ r e₂ v h s room ok q n =
     let k = read_well-formed limits₁ settings₁ w e₁ in
     let f = same-form w r q n in
-    let o : read_text (form_of r) (text_of v) ≡ some v = rw (← f) (per_lawful.text_own w v (held in_per w v k h)) in (
+    let o : read_text (form_of r) (text_of v) ≡ Some v = rw (← f) (per_lawful.text_own w v (held in_per w v k h)) in (
       o,
       meets_3 per per_lawful render (noted in_per) w r k (read_well-formed limits₂ settings₂ r e₂) (same-rows w r q) v h
           (λ z. absurd (let y : ◌≡◌ {A = ℕ} 0 1 = cc in omega arith))
@@ -174,11 +171,11 @@ unfolding answer_of
 points_as_before settings limits t q input =
     (rw q (InPer.point-encodes t input), rw q (InPer.point-decodes t input), rw q (InDer.point-encodes t input), rw q (InDer.point-decodes t input))
 
-admission_told : {R : Type 0} (E : Encoding Ty Form R Value) (row : R) (a : Admission) (room : List ℕ) → admission_number a ≢ 0
+admission_told : {R : Type 0} (E : Encoding Ty Form R Value) (row : R) (a : Result Value Refusal) (room : List ℕ) → admission_number a ≢ 0
     → (outcome_of (admission_answer E row a) room).number ≡ admission_number a
 unfolding outcome_of
-admission_told E row (Admission.Value v) room n = absurd (n refl)
-admission_told E row (Admission.Refused why) room n = refl
+admission_told E row (Ok v) room n = absurd (n refl)
+admission_told E row (Err why) room n = refl
 
 -- The number of an answer that is known.
 number_is : {a b : Answer} (room : List ℕ) → a ≡ b → (outcome_of a room).number ≡ (outcome_of b room).number
@@ -195,23 +192,23 @@ pub bits_told : BitsTold
 unfolding outcome_of
 bits_told settings limits t q octets room n = go (read_octets (year_row_of t) (Points.form_of t) octets) refl n
   where
-    go : (g : Found Bool Value) → read_octets (year_row_of t) (Points.form_of t) octets ≡ g → value_number (value_in g) ≢ 0
-        → (outcome_of (per_decode settings limits octets) room).number ≡ value_number (value_in (read_octets (year_row_of t) (Points.form_of t) octets))
+    go : (g : Found Bool Value) → read_octets (year_row_of t) (Points.form_of t) octets ≡ g → value_number (of_found g) ≢ 0
+        → (outcome_of (per_decode settings limits octets) room).number ≡ value_number (of_found (read_octets (year_row_of t) (Points.form_of t) octets))
     go (found v rest) r n = absurd (n refl)
     go nothing r n =
         number_is room ((points_as_before settings limits t q octets).1
         ∙ Coding.decoded_none PointsInPer.per t octets (read_well-formed limits settings (AnyType.Point t) q) (rw r))
-        ∙ sym (ap (λ (g : Found Bool Value). value_number (value_in g)) r)
+        ∙ sym (ap (λ (g : Found Bool Value). value_number (of_found g)) r)
 
-judgement_told : (c : Answer) (j : Judgement) (room : List ℕ) → judgement_number j ≢ 0 → (outcome_of (answer_with c j) room).number ≡ judgement_number j
+judgement_told : (c : Answer) (j : Result (Unit {0}) Refusal) (room : List ℕ) → judgement_number j ≢ 0 → (outcome_of (answer_with c j) room).number ≡ judgement_number j
 unfolding outcome_of
-judgement_told c Judgement.Held room n = absurd (n refl)
-judgement_told c (Judgement.Refused why) room n = refl
+judgement_told c (Ok tt) room n = absurd (n refl)
+judgement_told c (Err why) room n = refl
 
 -- What is given as a point was given.
-given_point : (o : Option Value) (v : Value) → as_point o ≡ some (AnyValue.Point v) → o ≡ some v
-given_point (some w) v e = let q : w ≡ v = cc in ap some q
-given_point none v e = absurd (let z : ◌≡◌ {A = ℕ} 0 1 = cc in omega arith)
+given_point : (o : Option Value) (v : Value) → as_point o ≡ Some (AnyValue.Point v) → o ≡ Some v
+given_point (Some w) v e = let q : w ≡ v = cc in ap Some q
+given_point None v e = absurd (let z : ◌≡◌ {A = ℕ} 0 1 = cc in omega arith)
 
 pub values_told : ValuesTold
 values_told settings limits t q octets room v n = (
@@ -240,11 +237,11 @@ of_durations AnyType.Duration e = named
 of_durations AnyType.ListedDuration e = as_listed
 
 -- Where nothing is read as a duration, what is answered has its number.
-none_told : (answer : Option Duration → Answer) (room : List ℕ) → answer none ≡ refused Refusal.Form
-    → (o : Option Duration) → duration_number (duration_in o) ≢ 0 → (outcome_of (answer o) room).number ≡ duration_number (duration_in o)
+none_told : (answer : Option Duration → Answer) (room : List ℕ) → answer None ≡ refused Refusal.Form
+    → (o : Option Duration) → duration_number o ≢ 0 → (outcome_of (answer o) room).number ≡ duration_number o
 unfolding outcome_of
-none_told answer room e (some d) n = absurd (n refl)
-none_told answer room e none n = number_is room e
+none_told answer room e (Some d) n = absurd (n refl)
+none_told answer room e None n = number_is room e
 
 pub durations_told : DurationsTold
 durations_told settings limits t q f input room =

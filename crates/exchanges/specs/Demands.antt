@@ -1,7 +1,6 @@
 -- What is claimed of the entry points: the maintainer's three demands, and the causes of the seven numbers. Here are the claims and no proof;
 -- proofs/Demands.antt has a theorem for each. docs/PROMISES.md says how to read them.
-use Rattle.std.specs.Prelude.{◌≢◌, ◌≡◌, true, false, List, ◌∷◌, ◌++◌, ℕ, ◌≤◌, ◌<◌, length, take, drop}
-use Rattle.std.proofs.Math.Option.{Option, some, none}
+use Rattle.std.specs.Prelude.{◌≢◌, ◌≡◌, true, false, List, ◌∷◌, ◌++◌, ℕ, ◌≤◌, ◌<◌, length, take, drop, Option, Some, None}
 use Rattle.answers.specs.Outcomes.{Answer, outcome_of, room_of}
 use Rattle.calendar.specs.Years.{year_at}
 use Rattle.texts.specs.declared.values.Value.{Value}
@@ -12,7 +11,6 @@ use Rattle.types.specs.Types.{type_number}
 use Rattle.types.specs.declared.types.AnyType.{AnyType}
 use Rattle.types.specs.declared.types.Limits.{Limits}
 use Rattle.types.specs.declared.types.TypeRead.{TypeRead}
-use Rattle.types.specs.declared.types.Window.{Window}
 use Rattle.types.specs.declared.types.«Type».{«Type» as Ty}
 use Rattle.type_texts.specs.TypeTexts.{type_of}
 use Rattle.held_values.specs.Admission.{admission_number, admitted, judged, judgement_number}
@@ -20,9 +18,10 @@ use Rattle.fields.specs.Bits.{octets_of}
 use Rattle.fields.specs.Fields.{bit_count, layout}
 use Rattle.rows.specs.Fields.{year_row_of, year_row_of_type}
 use Rattle.rows.specs.Readings.{read_octets}
-use Rattle.unpacking.specs.Unpacked.{value_in, value_number}
+use Rattle.octets.specs.Found.{of_found}
+use Rattle.unpacking.specs.Unpacked.{value_number}
 use Rattle.kinds.specs.Kinds.{Kind, holds}
-use Rattle.durations.specs.Answers.{duration_in, duration_number}
+use Rattle.durations.specs.Answers.{duration_number}
 use Rattle.durations.specs.Readings.{duration_in_octets}
 use Rattle.durations.specs.Texts.{made_canonical, read_duration}
 use Rattle.any_values.specs.Texts.{AnySpelling, form_of, render, text_of}
@@ -85,8 +84,8 @@ Demand1InC = (e : Entry) (settings : List ℕ) (limits : GivenLimits) (input roo
 
 -- The limits of the header's struct: "a lowest and a highest year" where `years` is not 0, "no hour 24" where `no24` is not 0.
 pub record LimitsStand (given : GivenLimits) (l : Limits) : Type 0 where
-  pub every-year : given.years ≡ 0 → l.window ≡ Window.Every
-  pub window_is : given.years ≢ 0 → l.window ≡ Window.Within (year_at given.lowest) (year_at given.highest)
+  pub every-year : given.years ≡ 0 → l.window ≡ None
+  pub window_is : given.years ≢ 0 → l.window ≡ Some ((year_at given.lowest), (year_at given.highest))
   pub hour_24 : given.no24 ≡ 0 → l.hour24 ≡ true
   pub no_hour_24 : given.no24 ≢ 0 → l.hour24 ≡ false
 
@@ -149,9 +148,9 @@ pub record Demand3 {T F R A : Type 0} (K : Kind T F R A) (written : Answer) (len
   pub no_room : holds K r v ≡ true → (room : List ℕ) → length room < length (K.text_of v) → Refused (read (sent written lent)) room 7
   -- "Otherwise it refuses, with the number that document 01 gives", whatever the room: 5 where the value's canonical text is of the form of the
   -- reader's type.
-  pub refuses_5 : holds K r v ≡ false → (a : A) → K.read_text (K.form r) (K.text_of v) ≡ some a → (room : List ℕ) → Refused (read (sent written lent)) room 5
+  pub refuses_5 : holds K r v ≡ false → (a : A) → K.read_text (K.form r) (K.text_of v) ≡ Some a → (room : List ℕ) → Refused (read (sent written lent)) room 5
   -- Where the value's canonical text isn't of the form of the reader's type, the number is 3, whatever the room.
-  pub refuses_3 : K.read_text (K.form r) (K.text_of v) ≡ none → (room : List ℕ) → Refused (read (sent written lent)) room 3
+  pub refuses_3 : K.read_text (K.form r) (K.text_of v) ≡ None → (room : List ℕ) → Refused (read (sent written lent)) room 3
 
 -- "Take any two types, one for a writer and one for a reader, whatever years and limits each sets, and any value that the writer's type holds.": in
 -- any spelling, in any room that was enough. "In PER, let both types select the same rows of the standard's Table 2, for the date and for the time,
@@ -161,7 +160,7 @@ Demand3InPer = (settings₁ : List ℕ) (limits₁ : Limits) (w : AnyType) → t
     → (settings₂ : List ℕ) (limits₂ : Limits) (r : AnyType) → type_of limits₂ settings₂ ≡ TypeRead.«Type» r
     → (v : AnyValue) → holds per w v ≡ true → (s : AnySpelling) (room : List ℕ) → (outcome_of (per_encode settings₁ limits₁ (render s v)) room).number ≡ 0
     → same_rows w r ≡ true → fraction_digits w ≡ fraction_digits r
-    → (per.read_text (form_of r) (text_of v) ≡ some v) × Demand3 per (per_encode settings₁ limits₁ (render s v)) room (per_decode settings₂ limits₂) r v
+    → (per.read_text (form_of r) (text_of v) ≡ Some v) × Demand3 per (per_encode settings₁ limits₁ (render s v)) room (per_decode settings₂ limits₂) r v
 
 -- "In DER the same is true of any two types with one tag."
 abbrev pub Demand3InDer : Type 0
@@ -190,7 +189,7 @@ result_as K decodes t v = K.text_of v
 pub record Gives {F R A : Type 0} (K : Kind AnyType F R A) (d : Direction) (settings : List ℕ) (limits : Limits) (input : List ℕ) (t : AnyType)
     (v : A) : Type 0 where
   pub type_is : type_of limits settings ≡ TypeRead.«Type» t
-  pub value-is : read_as K d t input ≡ some v
+  pub value-is : read_as K d t input ≡ Some v
 
 -- What each number is "given when", whatever else holds, in any kind of value; 0 is success.
 pub data Cause {F R A : Type 0} (K : Kind AnyType F R A) (d : Direction) (settings : List ℕ) (limits : Limits) (input room : List ℕ) : ℕ → Type 0 where
@@ -199,7 +198,7 @@ pub data Cause {F R A : Type 0} (K : Kind AnyType F R A) (d : Direction) (settin
   -- "two lists that don't make one row"
   two : type_of limits settings ≡ TypeRead.NoRow → Cause K d settings limits input room 2
   -- "the text or the DER contents are not of the type's form; tag wrong; .. a fraction negative or of more than n digits"
-  three : (t : AnyType) → type_of limits settings ≡ TypeRead.«Type» t → read_as K d t input ≡ none → Cause K d settings limits input room 3
+  three : (t : AnyType) → type_of limits settings ≡ TypeRead.«Type» t → read_as K d t input ≡ None → Cause K d settings limits input room 3
   -- "no such date, time or difference"
   four : (t : AnyType) (v : A) → Gives K d settings limits input t v → K.exists v ≡ false → Cause K d settings limits input room 4
   -- "not in the type: a year of no Year setting that the type names, year window, hour 24"
@@ -249,29 +248,29 @@ TextsTold = (settings : List ℕ) (limits : Limits) (t : Ty) → type_of limits 
 -- Where the number of what is read from bits under a point's type is not 0, it is the decoder's.
 abbrev pub BitsTold : Type 0
 BitsTold = (settings : List ℕ) (limits : Limits) (t : Ty) → type_of limits settings ≡ TypeRead.«Type» (AnyType.Point t) → (octets room : List ℕ)
-    → value_number (value_in (read_octets (year_row_of t) (Points.form_of t) octets)) ≢ 0
-    → (outcome_of (per_decode settings limits octets) room).number ≡ value_number (value_in (read_octets (year_row_of t) (Points.form_of t) octets))
+    → value_number (of_found (read_octets (year_row_of t) (Points.form_of t) octets)) ≢ 0
+    → (outcome_of (per_decode settings limits octets) room).number ≡ value_number (of_found (read_octets (year_row_of t) (Points.form_of t) octets))
 
 -- Where the number of what is judged of a point that octets give is not 0, it is the decoder's, in PER and in DER.
 abbrev pub ValuesTold : Type 0
 ValuesTold = (settings : List ℕ) (limits : Limits) (t : Ty) → type_of limits settings ≡ TypeRead.«Type» (AnyType.Point t) → (octets room : List ℕ) (v : Value)
     → judgement_number (judged t v) ≢ 0
-    → (read_as per decodes (AnyType.Point t) octets ≡ some (AnyValue.Point v)
+    → (read_as per decodes (AnyType.Point t) octets ≡ Some (AnyValue.Point v)
     → (outcome_of (per_decode settings limits octets) room).number ≡ judgement_number (judged t v))
-    × (read_as der decodes (AnyType.Point t) octets ≡ some (AnyValue.Point v)
+    × (read_as der decodes (AnyType.Point t) octets ≡ Some (AnyValue.Point v)
     → (outcome_of (der_decode settings limits octets) room).number ≡ judgement_number (judged t v))
 
 -- Where the number of what is read as a duration, from a text, from bits or from an element, is not 0, it is the entry point's.
 abbrev pub DurationsTold : Type 0
 DurationsTold = (settings : List ℕ) (limits : Limits) (t : AnyType) → type_of limits settings ≡ TypeRead.«Type» t → form_of t ≡ AnyForm.Duration
     → (input room : List ℕ)
-    → (duration_number (duration_in (read_duration input)) ≢ 0
-    → ((outcome_of (per_encode settings limits input) room).number ≡ duration_number (duration_in (read_duration input)))
-    × ((outcome_of (der_encode settings limits input) room).number ≡ duration_number (duration_in (read_duration input))))
-    × (duration_number (duration_in (duration_in_octets input)) ≢ 0
-    → (outcome_of (per_decode settings limits input) room).number ≡ duration_number (duration_in (duration_in_octets input)))
-    × (duration_number (duration_in (read_duration_element (name_of t) input)) ≢ 0
-    → (outcome_of (der_decode settings limits input) room).number ≡ duration_number (duration_in (read_duration_element (name_of t) input)))
+    → (duration_number (read_duration input) ≢ 0
+    → ((outcome_of (per_encode settings limits input) room).number ≡ duration_number (read_duration input))
+    × ((outcome_of (der_encode settings limits input) room).number ≡ duration_number (read_duration input)))
+    × (duration_number (duration_in_octets input) ≢ 0
+    → (outcome_of (per_decode settings limits input) room).number ≡ duration_number (duration_in_octets input))
+    × (duration_number (read_duration_element (name_of t) input) ≢ 0
+    → (outcome_of (der_decode settings limits input) room).number ≡ duration_number (read_duration_element (name_of t) input))
 
 -- The number of limits that C gives is 0; where a count is among them, which has no place, it is 1, and so is the entry point's.
 abbrev pub LimitsTold : Type 0
@@ -284,7 +283,7 @@ LimitsTold = (e : Entry) (settings : List ℕ) (given : GivenLimits) (input room
 
 -- "Show that making canonical twice changes nothing more."
 abbrev pub CanonicalTwice : Type 0
-CanonicalTwice = (text once : List ℕ) → made_canonical text ≡ some once → made_canonical once ≡ some once
+CanonicalTwice = (text once : List ℕ) → made_canonical text ≡ Some once → made_canonical once ≡ Some once
 
 -- What the entry points answer under a point's type, they answer as before: what the kinds of points say, which do not know durations.
 abbrev pub PointsAsBefore : Type 0

@@ -6,4 +6,4 @@ pub mod entries;
 pub mod limits;
 
 pub use entries::Entry;
-pub use limits::{GivenLimits, LimitsRead};
+pub use limits::GivenLimits;

@@ -1,5 +1,3 @@
-use types::Limits;
-
 // A type's limits as C passes them, in the order of the header's struct. `years` is 0 where there is no lowest and no
 // highest year, `no24` is 0 where hour 24 is allowed, and `counts` is 0 where there is no fewest and no most of
 // recurrences. Any other number says that there is such a limit.
@@ -13,11 +11,4 @@ pub struct GivenLimits {
     pub counts: u32,
     pub fewest: u32,
     pub most: u32,
-}
-
-// What limits from C give: a type's limits, or that one of them has its place in no type.
-#[derive(Clone, Copy)]
-pub enum LimitsRead {
-    Limits(Limits),
-    Misplaced,
 }

@@ -1,19 +1,19 @@
 -- Dates and times as a kind of value, whatever their encoding.
+use Rattle.std.specs.Prelude.{Option, Some, None}
+use Rattle.texts.specs.declared.values.Spelling.{Spelling}
 use Rattle.texts.specs.Texts.{read_of, text_of}
 use Rattle.texts.specs.declared.forms.Form.{Form}
-use Rattle.texts.specs.declared.texts.TextRead.{TextRead}
 use Rattle.texts.specs.declared.values.Value.{Value}
 use Rattle.types.specs.Types.{form_of, well_formed}
 use Rattle.types.specs.declared.types.«Type».{«Type» as Ty}
 use Rattle.held_values.specs.Existence.{exists_value}
 use Rattle.held_values.specs.Holding.{in_type}
-use Rattle.std.proofs.Math.Option.{Option, some, none}
 use Rattle.kinds.specs.Kinds.{Encoding, Kind}
 
 -- What a text gives, however it is spelled.
-abbrev pub of_text : TextRead → Option Value
-of_text (TextRead.Value v s) = some v
-of_text TextRead.NotOfForm = none
+abbrev pub of_text : Option (Value × Spelling) → Option Value
+of_text (Some (v, s)) = Some v
+of_text None = None
 
 -- Dates and times in an encoding.
 abbrev pub encoded_by : {R : Type 0} → Encoding Ty Form R Value → Kind Ty Form R Value

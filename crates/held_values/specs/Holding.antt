@@ -1,10 +1,10 @@
 -- What a type holds. Years are astronomical years, and ranges have both their ends.
-use Rattle.std.specs.Prelude.{Bool, true, not, ◌&&◌, ◌||◌, eqb, ℤ}
+use Rattle.std.specs.Prelude.{Bool, true, not, ◌&&◌, ◌||◌, eqb, ℤ, Option, Some, None}
+use Rattle.calendar.specs.declared.years.Year.{Year}
 use Rattle.calendar.specs.Years.{astronomical_of}
 use Rattle.calendar.specs.declared.dates.Date.{Date}
 use Rattle.texts.specs.declared.values.Time.{Time}
 use Rattle.texts.specs.declared.values.Value.{Value}
-use Rattle.types.specs.declared.types.Window.{Window}
 use Rattle.types.specs.declared.types.DateType.{DateType}
 use Rattle.types.specs.declared.types.TimeType.{TimeType}
 use Rattle.types.specs.declared.types.Parts.{Parts}
@@ -16,9 +16,9 @@ use Rattle.held_values.specs.Forms.{same_form}
 use Rattle.held_values.specs.Existence.{hours_of, exists_value}
 
 -- "a lowest and a highest year"
-abbrev pub in_window : Window → ℤ → Bool
-in_window Window.Every y = true
-in_window (Window.Within lowest highest) y = between (astronomical_of lowest) (astronomical_of highest) y
+abbrev pub in_window : Option (Year × Year) → ℤ → Bool
+in_window None y = true
+in_window (Some (lowest, highest)) y = between (astronomical_of lowest) (astronomical_of highest) y
 
 -- What a type asks of a date besides its form: a year of a Year setting that the type names, in its window.
 unfoldable pub admits_date : DateType → Date → Bool

@@ -1,9 +1,8 @@
 -- The encoder and the decoder of a kind: "Each is given exactly then. When several hold, the lowest number is given."
-use Rattle.std.specs.Prelude.{ℕ, cond, List}
+use Rattle.std.specs.Prelude.{ℕ, cond, List, Option, Some, None}
 use Rattle.octets.specs.Octets.{eq_list}
 use Rattle.answers.specs.Outcomes.{Answer, done, refused}
 use Rattle.answers.specs.declared.refusals.Refusal.{Refusal}
-use Rattle.std.proofs.Math.Option.{Option, some, none}
 use Rattle.kinds.specs.Kinds.{Kind}
 
 module _ {T F R A : Type 0} (K : Kind T F R A) where
@@ -13,8 +12,8 @@ module _ {T F R A : Type 0} (K : Kind T F R A) where
 
   -- A text: 3 where it is "not of the type's form".
   unfoldable pub judged_text : T → Option A → Answer
-  judged_text t none = refused Refusal.Form
-  judged_text t (some a) = judged_as t a (done (K.encoding (K.row t) a) (K.count (K.row t) a))
+  judged_text t None = refused Refusal.Form
+  judged_text t (Some a) = judged_as t a (done (K.encoding (K.row t) a) (K.count (K.row t) a))
 
   -- The octets of a text's value; 1 for a type that no settings give.
   unfoldable pub encoded : T → List ℕ → Answer
@@ -27,8 +26,8 @@ module _ {T F R A : Type 0} (K : Kind T F R A) where
 
   -- Octets: 3 where nothing can be read.
   unfoldable pub judged_octets : T → List ℕ → Option A → Answer
-  judged_octets t octets none = refused Refusal.Form
-  judged_octets t octets (some a) = judged_as t a (compared t octets a)
+  judged_octets t octets None = refused Refusal.Form
+  judged_octets t octets (Some a) = judged_as t a (compared t octets a)
 
   -- The canonical text of the octets' value.
   unfoldable pub decoded : T → List ℕ → Answer

@@ -1,6 +1,5 @@
 -- A kind of value with an encoding: what "The seven numbers" ask of it.
-use Rattle.std.specs.Prelude.{ℕ, Bool, ◌&&◌, List}
-use Rattle.std.proofs.Math.Option.{Option}
+use Rattle.std.specs.Prelude.{ℕ, Bool, ◌&&◌, List, Option}
 use Rattle.answers.specs.declared.counts.Bits.{Bits}
 
 -- An encoding of values: what of a type it goes by, the octets of a value with their bit count, and what octets give at a form.

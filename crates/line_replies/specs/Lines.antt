@@ -1,12 +1,11 @@
 -- The program at the end of "Checked values": "A program reads lines `work;type;input` .. and prints the number and, after 0, the
 -- hex or text; a line with fewer than two semicolons, an unknown work, hex input that isn't whole pairs of hex digits, or more
 -- than 1,024 octets prints `?`."
-use Rattle.std.specs.Prelude.{ℕ, ◌+◌, ◌-◌, ◌*◌, ◌/◌, ◌%◌, Bool, true, false, ◌&&◌, cond, List, [], ◌∷◌, ◌++◌, leb, ltb, length, take, drop}
+use Rattle.std.specs.Prelude.{ℕ, ◌+◌, ◌-◌, ◌*◌, ◌/◌, ◌%◌, Bool, true, false, ◌&&◌, cond, List, [], ◌∷◌, ◌++◌, leb, ltb, length, take, drop, Option, Some, None}
 use Rattle.octets.specs.Octets.{bytes, eq_list}
 use Rattle.octets.specs.Pieces.{span_to}
 use Rattle.answers.specs.Outcomes.{Answer, done, refused}
 use Rattle.answers.specs.Refusals.{number_of}
-use Rattle.std.proofs.Math.Option.{Option, some, none}
 use Rattle.types.specs.Types.{no_limits}
 use Rattle.exchanges.specs.Coding.{answer_of}
 use Rattle.exchanges.specs.declared.entries.Entry.{Entry}
@@ -33,14 +32,14 @@ hex_number c =
 
 -- One octet more in front.
 abbrev pub in_front : ℕ → Option (List ℕ) → Option (List ℕ)
-in_front x (some l) = some (x ∷ l)
-in_front x none = none
+in_front x (Some l) = Some (x ∷ l)
+in_front x None = None
 
 -- "whole pairs of hex digits"
 unfoldable pub from_hex : List ℕ → Option (List ℕ)
-from_hex [] = some []
-from_hex (x ∷ []) = none
-from_hex (x ∷ y ∷ l) = cond (ltb (hex_number x) 16 && ltb (hex_number y) 16) (in_front (hex_number x * 16 + hex_number y) (from_hex l)) none
+from_hex [] = Some []
+from_hex (x ∷ []) = None
+from_hex (x ∷ y ∷ l) = cond (ltb (hex_number x) 16 && ltb (hex_number y) 16) (in_front (hex_number x * 16 + hex_number y) (from_hex l)) None
 
 -- `?`, and the end of the line.
 abbrev pub unasked : List ℕ
@@ -54,10 +53,10 @@ answer_shown show (refused why) = (48 + number_of why) ∷ bytes "\n"
 -- "work per, der, unper or under"
 unfoldable pub entry_named : List ℕ → Option Entry
 entry_named work =
-    cond (eq_list work (bytes "per")) (some Entry.PerEncode)
-    (cond (eq_list work (bytes "der")) (some Entry.DerEncode)
-    (cond (eq_list work (bytes "unper")) (some Entry.PerDecode)
-    (cond (eq_list work (bytes "under")) (some Entry.DerDecode) none)))
+    cond (eq_list work (bytes "per")) (Some Entry.PerEncode)
+    (cond (eq_list work (bytes "der")) (Some Entry.DerEncode)
+    (cond (eq_list work (bytes "unper")) (Some Entry.PerDecode)
+    (cond (eq_list work (bytes "under")) (Some Entry.DerDecode) None)))
 
 -- Whether an entry point takes a text and gives octets.
 abbrev pub gives_octets : Entry → Bool
@@ -68,7 +67,7 @@ gives_octets Entry.DerDecode = false
 
 -- "hex input for the last two"
 abbrev pub input_of : Bool → List ℕ → Option (List ℕ)
-input_of true input = some input
+input_of true input = Some input
 input_of false input = from_hex input
 
 -- "the hex or text"
@@ -78,13 +77,13 @@ result_shown false text = text
 
 -- The reply of an entry point, where there is an input.
 abbrev pub replied_by : Entry → List ℕ → Option (List ℕ) → List ℕ
-replied_by e settings (some input) = answer_shown (result_shown (gives_octets e)) (answer_of e settings no_limits input)
-replied_by e settings none = unasked
+replied_by e settings (Some input) = answer_shown (result_shown (gives_octets e)) (answer_of e settings no_limits input)
+replied_by e settings None = unasked
 
 -- The reply to a type's text and an input, where an entry point is named.
 abbrev pub asked_of : Option Entry → List ℕ → List ℕ → List ℕ
-asked_of (some e) settings input = replied_by e settings (input_of (gives_octets e) input)
-asked_of none settings input = unasked
+asked_of (Some e) settings input = replied_by e settings (input_of (gives_octets e) input)
+asked_of None settings input = unasked
 
 -- The reply to a work, a type's text and an input.
 unfoldable pub worked : List ℕ → List ℕ → List ℕ → List ℕ

@@ -1,14 +1,12 @@
 // The replies. Each is stored at the front of the room, and its length is answered.
-ghost use Rattle.std.specs.Prelude.{◌≡◌, ◌∷◌, ◌++◌, ◌+◌, ◌*◌, ◌<◌, ◌≤◌, length};
-ghost use Rattle.std.proofs.Math.Option.{some};
+ghost use Rattle.std.specs.Prelude.{◌≡◌, ◌∷◌, ◌++◌, ◌+◌, ◌*◌, ◌<◌, ◌≤◌, length, Some};
 ghost use Rattle.octets.specs.Octets.{bytes};
 ghost use Rattle.octets.specs.Stores.{StoredText};
 ghost use Rattle.printing.specs.Canonical.{text_capacity};
 ghost use Rattle.line_replies.specs.Lines.{asked_of, cut_again, entry_named, gives_octets, longest_line, replied_by, result_shown, unasked, worked};
 ghost use Rattle.line_replies.specs.Rooms.{reply_capacity, reply_length, room_with};
-ghost use Rattle.lines.specs.Steps.{entry_in, reply_to};
 
-use crate::hex::{Hex, put_hex, read_hex};
+use crate::hex::{put_hex, read_hex};
 use codec::answer;
 use exchanges::Entry;
 use octets::{find, put_octets, same};
@@ -53,9 +51,9 @@ fn put_result(room: &mut [u8], at: usize, hex: bool, res: &[u8]) -> usize
     ensures upper_bound { result ≤ at + 2 * length res.now }
 {
     if hex {
-        return put_hex(room, at, &*res);
+        return put_hex(room, at, res);
     }
-    put_octets(room, at, &*res)
+    put_octets(room, at, res)
 }
 
 // The reply to a result: 0, and the result in hex or as a text.
@@ -65,91 +63,64 @@ fn result_reply(hex: bool, res: &[u8], room: &mut [u8]) -> usize
     ensures upper_bound { result ≤ reply_capacity }
 {
     let start = put_octets(room, 0, b"0 ");
-    let end = put_result(room, start, hex, &*res);
+    let end = put_result(room, start, hex, res);
     put_octets(room, end, b"\n")
-}
-
-// The reply to a number, and after 0 to so many octets of the buffer.
-fn outcome_reply(hex: bool, number: u32, count: usize, buffer: &[u8], room: &mut [u8]) -> usize
-    requires { (number ≤ 7) × (count ≤ text_capacity) × (length buffer.now ≡ text_capacity) × (reply_capacity ≤ length room.old) }
-    ensures stored_text { StoredText room.old room.new 0 (reply_to (result_shown hex) number count buffer.now) result }
-    ensures upper_bound { result ≤ reply_capacity }
-{
-    if number != 0 {
-        return number_reply(number, room);
-    }
-    result_reply(hex, &buffer[..count], room)
 }
 
 // Whether an entry point takes a text and gives octets.
 fn gives_octets(entry: Entry) -> bool
     ensures { result ≡ gives_octets entry }
 {
-    match entry {
-        Entry::PerEncode => true,
-        Entry::PerDecode => false,
-        Entry::DerEncode => true,
-        Entry::DerDecode => false,
-    }
+    matches!(entry, Entry::PerEncode | Entry::DerEncode)
 }
 
 // The reply of an entry point to an input.
 fn answer_reply(entry: Entry, settings: &[u8], input: &[u8], room: &mut [u8]) -> usize
     requires { reply_capacity ≤ length room.old }
-    ensures stored_text { StoredText room.old room.new 0 (replied_by entry settings.now (some input.now)) result }
+    ensures stored_text { StoredText room.old room.new 0 (replied_by entry settings.now (Some input.now)) result }
     ensures upper_bound { result ≤ reply_capacity }
 {
     let mut buffer = [0u8; TEXT_CAPACITY];
-    let outcome = answer(entry, &*settings, Limits::NONE, &*input, &mut buffer);
-    outcome_reply(
-        gives_octets(entry),
-        outcome.number,
-        outcome.length.count,
-        &buffer,
-        room,
-    )
+    let outcome = answer(entry, settings, Limits::NONE, input, &mut buffer);
+    if outcome.number != 0 {
+        return number_reply(outcome.number, room);
+    }
+    result_reply(gives_octets(entry), &buffer[..outcome.length.count], room)
 }
 
 // The reply of an entry point to an input that is in hex where it is octets.
 fn entry_reply(entry: Entry, settings: &[u8], input: &[u8], room: &mut [u8]) -> usize
     requires { (length input.now ≤ longest_line) × (reply_capacity ≤ length room.old) }
-    ensures stored_text { StoredText room.old room.new 0 (asked_of (some entry) settings.now input.now) result }
+    ensures stored_text { StoredText room.old room.new 0 (asked_of (Some entry) settings.now input.now) result }
     ensures upper_bound { result ≤ reply_capacity }
 {
     if gives_octets(entry) {
-        return answer_reply(entry, &*settings, &*input, room);
+        return answer_reply(entry, settings, input, room);
     }
     let mut buffer = [0u8; HEX_CAPACITY];
-    let Hex::Length(n) = read_hex(&*input, &mut buffer) else {
+    let Some(count) = read_hex(input, &mut buffer) else {
         return unasked_reply(room);
     };
-    answer_reply(entry, &*settings, &buffer[..n], room)
-}
-
-// What a work names: an entry point, or nothing that is known.
-#[derive(Clone, Copy)]
-enum Work {
-    Entry(Entry),
-    Unknown,
+    answer_reply(entry, settings, &buffer[..count], room)
 }
 
 // The entry point that a work names.
-fn named(work: &[u8]) -> Work
-    ensures { entry_in result ≡ entry_named work.now }
+fn named(work: &[u8]) -> Option<Entry>
+    ensures { result ≡ entry_named work.now }
 {
-    if same(&*work, b"per") {
-        return Work::Entry(Entry::PerEncode);
+    if same(work, b"per") {
+        return Some(Entry::PerEncode);
     }
-    if same(&*work, b"der") {
-        return Work::Entry(Entry::DerEncode);
+    if same(work, b"der") {
+        return Some(Entry::DerEncode);
     }
-    if same(&*work, b"unper") {
-        return Work::Entry(Entry::PerDecode);
+    if same(work, b"unper") {
+        return Some(Entry::PerDecode);
     }
-    if same(&*work, b"under") {
-        return Work::Entry(Entry::DerDecode);
+    if same(work, b"under") {
+        return Some(Entry::DerDecode);
     }
-    Work::Unknown
+    None
 }
 
 // The reply to a work, a type's text and an input.
@@ -158,10 +129,10 @@ fn work_reply(work: &[u8], settings: &[u8], input: &[u8], room: &mut [u8]) -> us
     ensures stored_text { StoredText room.old room.new 0 (worked work.now settings.now input.now) result }
     ensures upper_bound { result ≤ reply_capacity }
 {
-    let Work::Entry(entry) = named(&*work) else {
+    let Some(entry) = named(work) else {
         return unasked_reply(room);
     };
-    entry_reply(entry, &*settings, &*input, room)
+    entry_reply(entry, settings, input, room)
 }
 
 // The reply to a work and what follows the first semicolon.
@@ -170,11 +141,11 @@ fn rest_reply(work: &[u8], rest: &[u8], room: &mut [u8]) -> usize
     ensures stored_text { StoredText room.old room.new 0 (cut_again work.now rest.now) result }
     ensures upper_bound { result ≤ reply_capacity }
 {
-    let second = find(&*rest, 0, b';');
+    let second = find(rest, 0, b';');
     if rest.len() <= second {
         return unasked_reply(room);
     }
-    work_reply(&*work, &rest[..second], &rest[second + 1..], room)
+    work_reply(work, &rest[..second], &rest[second + 1..], room)
 }
 
 // Puts the reply to a line, which is given without its newline, at the front of a room of at least REPLY_CAPACITY
@@ -190,7 +161,7 @@ pub fn reply(line: &[u8], room: &mut [u8]) -> usize
     if LONGEST < line.len() {
         return unasked_reply(room);
     }
-    let first = find(&*line, 0, b';');
+    let first = find(line, 0, b';');
     if line.len() <= first {
         return unasked_reply(room);
     }

@@ -1,7 +1,6 @@
 -- The laws of settings lists.
 pub mod Words
 pub mod Lists
-pub mod Several
 pub mod Order
 pub mod Spelled
 pub mod Checked

@@ -1,27 +1,15 @@
--- Several lists of one type, as the code keeps them.
-use Rattle.std.specs.Prelude.{◌+◌, ◌≤◌, ◌≡◌, cond, List, [], leb, length, replicate, set, take}
-use Rattle.lists.specs.Lists.{most_lists, refused_list}
+-- Several lists of one type.
+use Rattle.std.specs.Prelude.{cond, List, [], ◌∷◌, leb, length, Option, Some, None}
+use Rattle.std.specs.Option.{option_map}
+use Rattle.lists.specs.Lists.{most_lists}
 use Rattle.lists.specs.declared.lists.Settings.{Settings}
-use Rattle.lists.specs.declared.several.Lists.{Lists}
 
--- The lists that are kept.
-abbrev pub kept : Lists → List Settings
-kept lists = take lists.count lists.items
+-- The settings of lists, where each can be read.
+unfoldable pub all_read : List (Option Settings) → Option (List Settings)
+all_read [] = Some []
+all_read (None ∷ l) = None
+all_read (Some s ∷ l) = option_map (λ r. s ∷ r) (all_read l)
 
--- No more are kept than there may be, and there is room for so many.
-pub record Sound (lists : Lists) : Type 0 where
-  pub few : lists.count ≤ most_lists
-  pub room : length lists.items ≡ most_lists
-
--- No list.
-abbrev pub no_lists : Lists
-no_lists = record { count = 0; items = replicate most_lists refused_list }
-
--- One list more; none at all where there were as many as there may be.
-unfoldable pub pushed : Lists → Settings → Lists
-pushed lists list =
-    cond (leb most_lists lists.count) no_lists (record { count = lists.count + 1; items = set lists.items lists.count list })
-
--- Those of a text that are kept: up to as many as there may be, and none where they are more.
-unfoldable pub few : List Settings → List Settings
-few l = cond (leb (length l) most_lists) l []
+-- Those of a text that are kept: all of up to as many as there may be, where each can be read, and otherwise none.
+unfoldable pub few : List (Option Settings) → Option (List Settings)
+few l = cond (leb (length l) most_lists) (all_read l) None

@@ -1,35 +1,19 @@
 -- "A list is `Property=Setting` pairs": the words of the base settings.
-use Rattle.std.specs.Prelude.{ℕ, suc, ◌+◌, ◌-◌, ◌*◌, ◌≡◌, ◌&&◌, cond, List, [], ◌∷◌, ◌++◌, map, eqb, leb, length, get_or, take}
+use Rattle.std.specs.Prelude.{ℕ, Bool, suc, ◌+◌, ◌-◌, ◌*◌, ◌&&◌, cond, List, [], ◌∷◌, Option, Some, None, map, leb, length, get_or, take}
+use Rattle.std.specs.Option.{option_map, option_or}
 use Prim.Native.String.{String}
 use Rattle.octets.specs.Octets.{bytes, eq_list}
 use Rattle.types.specs.Years.{year_settings, year_word}
 use Rattle.lists.specs.declared.words.Pair.{Pair}
 
--- The place of a text among words that are counted from k, or 0 where it is none of them.
-unfoldable pub place_from : ℕ → List String → List ℕ → ℕ
-place_from k [] l = 0
-place_from k (w ∷ ws) l = cond (eq_list l (bytes w)) k (place_from (suc k) ws l)
+-- The place of a text among the octets of words that are counted from k, if it is one of them.
+unfoldable pub place_from : ℕ → List (List ℕ) → List ℕ → Option ℕ
+place_from k [] l = None
+place_from k (w ∷ ws) l = cond (eq_list l w) (Some k) (place_from (suc k) ws l)
 
 -- The place of a text among words that are counted from 1.
-abbrev pub place_in : List String → List ℕ → ℕ
-place_in = place_from 1
-
--- The octets of words, those of each after their number.
-abbrev pub counted : List String → List ℕ
-counted [] = []
-counted (w ∷ ws) = length (bytes w) ∷ (bytes w ++ counted ws)
-
--- A table has these words, so many.
-abbrev pub Has : List ℕ → ℕ → List String → Type 0
-Has t n ws = (t ≡ counted ws) × (length ws ≡ n)
-
--- A table has so many words.
-abbrev pub Table : List ℕ → ℕ → Type 0
-Table t n = (ws : List String) × Has t n ws
-
--- The place of a text in a table is that among its words.
-abbrev pub Place : List ℕ → ℕ → List ℕ → ℕ → Type 0
-Place t n l k = (ws : List String) → Has t n ws → k ≡ place_in ws l
+abbrev pub place_in : List String → List ℕ → Option ℕ
+place_in ws = place_from 1 (map bytes ws)
 
 -- "`Basic`: Date, Time, Date-Time", and "`Basic=Interval`" (#101).
 abbrev pub basic_words : List String
@@ -59,35 +43,38 @@ zone_words = "Local-or-UTC=L" ∷ "Local-or-UTC=Z" ∷ "Local-or-UTC=LD" ∷ []
 abbrev pub interval_words : List String
 interval_words = "Interval-type=D" ∷ []
 
--- The number of a Time setting with n digits, from that of its word; 0 stays 0.
+-- The number of a Time setting with n digits, from that of its word.
 abbrev pub with_digits : ℕ → ℕ → ℕ
-with_digits n k = cond (eqb k 0) 0 (n * 10 + k)
+with_digits n k = n * 10 + k
 
--- A fraction word with one digit, 1 to 9, after it.
-unfoldable pub fraction_number : List ℕ → ℕ
+-- "with n from 1 to 9": whether an octet is such a digit.
+abbrev pub is_digit_count : ℕ → Bool
+is_digit_count d = leb 49 d && leb d 57
+
+-- The number of a Time setting with a fraction: a fraction word with one digit, 1 to 9, after it.
+unfoldable pub fraction_number : List ℕ → Option ℕ
 fraction_number l =
-    cond (leb 49 (get_or l (length l - 1) 0) && leb (get_or l (length l - 1) 0) 57)
-    (with_digits (get_or l (length l - 1) 0 - 48) (place_in fraction_words (take (length l - 1) l)))
-    0
+    cond (is_digit_count (get_or l (length l - 1) 0))
+    (option_map (with_digits (get_or l (length l - 1) 0 - 48)) (place_in fraction_words (take (length l - 1) l)))
+    None
 
--- The first number that is not 0.
-abbrev pub first_number : ℕ → ℕ → ℕ
-first_number m n = cond (eqb m 0) n m
+-- The number of a Time setting.
+abbrev pub time_number : List ℕ → Option ℕ
+time_number l = option_or (place_in clock_words l) (fraction_number l)
 
--- "`Property=Setting`": the property, 0 to 4 in the order of "Base settings" and 5 for Interval-type, and the number of its setting, 0 where the text is none.
+-- "`Property=Setting`": the property, 0 to 4 in the order of "Base settings" and 5 for Interval-type, and the number of its setting.
 abbrev pub pair : ℕ → ℕ → Pair
 pair p n = record { property = p; setting = n }
 
--- The first pair that is a setting.
-abbrev pub first_of : Pair → Pair → Pair
-first_of p q = cond (eqb p.setting 0) q p
+-- The pair of a property with its setting, if it has one.
+abbrev pub with_setting : ℕ → Option ℕ → Option Pair
+with_setting p n = option_map (pair p) n
 
--- The pair that a text is.
-unfoldable pub pair_of : List ℕ → Pair
+-- The pair that a text is, if it is one.
+unfoldable pub pair_of : List ℕ → Option Pair
 pair_of l =
-    first_of (pair 0 (place_in basic_words l))
-    (first_of (pair 1 (place_in date_words l))
-    (first_of (pair 2 (place_in year_words l))
-    (first_of (pair 3 (first_number (place_in clock_words l) (fraction_number l)))
-    (first_of (pair 4 (place_in zone_words l))
-    (pair 5 (place_in interval_words l))))))
+    option_or (with_setting 0 (place_in basic_words l))
+    (option_or (with_setting 1 (place_in date_words l))
+    (option_or (with_setting 2 (place_in year_words l))
+    (option_or (with_setting 3 (time_number l))
+    (option_or (with_setting 4 (place_in zone_words l)) (with_setting 5 (place_in interval_words l))))))

@@ -2,5 +2,4 @@
 #![tactic(auto)]
 
 pub mod lists;
-pub mod several;
 pub mod words;

@@ -1,23 +1,15 @@
 -- The octets of a duration in a buffer, and the fields that are written each as a group.
-use Rattle.std.specs.Prelude.{ℕ, Bool, ◌&&◌, ◌||◌, not, cond, List, [], ◌∷◌, ◌++◌, eqb, ltb, length, drop, replicate, get_or}
-use Rattle.fields.specs.Bits.{BitString, octets_of}
-use Rattle.fields.specs.Fields.{Field, layout, bit_count}
+use Rattle.std.specs.Prelude.{ℕ, Bool, ◌&&◌, ◌||◌, not, cond, List, [], ◌∷◌, ◌++◌, eqb, ltb, get_or}
+use Rattle.fields.specs.Fields.{Field}
 use Rattle.durations.specs.declared.Duration.{Duration}
 use Rattle.durations.specs.Durations.{parts_of}
 use Rattle.durations.specs.Fields.{extended, roots, presence, presences, duration_fields}
-use Rattle.packing.specs.declared.duration.PackedDuration.{PackedDuration}
-
--- Octets at the front of a buffer of 48, zeros after them.
-unfoldable pub in_duration_buffer : List ℕ → List ℕ
-in_duration_buffer l = l ++ drop (length l) (replicate 48 0)
-
--- Bits in such a buffer, with their count.
-unfoldable pub packed_bits : BitString → PackedDuration
-packed_bits bs = record { octets = in_duration_buffer (octets_of bs); bits = record { count = length bs } }
+use Rattle.packing.specs.declared.writing.Packed.{Packed}
+use Rattle.packing.specs.Packed.{packed_fields}
 
 -- The octets of a duration's fields, and the fields' bit count.
-unfoldable pub packed_duration : Duration → PackedDuration
-packed_duration d = record { octets = in_duration_buffer (octets_of (layout (duration_fields d))); bits = record { count = bit_count (duration_fields d) } }
+unfoldable pub packed_duration : Duration → Packed 48
+packed_duration d = packed_fields 48 (duration_fields d)
 
 -- Whether the component at a place is there: the last one is, and before it those that are not 0.
 unfoldable pub is_there : ℕ → ℕ → ℕ → Bool

@@ -3,8 +3,8 @@ use Rattle.std.specs.Prelude.{ℕ, ◌+◌, ◌*◌, ◌≤◌, ◌≡◌, Bool,
 use Rattle.answers.specs.declared.counts.Bits.{Bits}
 use Rattle.fields.specs.Bits.{BitString, octets_of}
 use Rattle.packing.specs.declared.waiting.Waiting.{Waiting}
-use Rattle.packing.specs.Groups.{group_bits, Fits}
-use Rattle.packing.specs.Writing.{Ready, written_bits}
+use Rattle.packing.specs.Groups.{group_bits}
+use Rattle.packing.specs.Writing.{written_bits}
 
 -- The bits written so far, and after them those that wait.
 abbrev pub waiting_bits : List ℕ → Waiting → BitString
@@ -23,8 +23,6 @@ none_written w = eqb w.pen.octets.count 0 && eqb w.pen.held.count 0
 
 -- From before and w, bits bs were appended, which left after and r; what follows them in the buffer is as it was.
 pub record Added (before : List ℕ) (w : Waiting) (bs : BitString) (after : List ℕ) (r : Waiting) : Type 0 where
-  pub ready : Ready r.pen
-  pub fits : Fits 56 r.group
   pub bits : waiting_bits after r ≡ waiting_bits before w ++ bs
   pub place : waiting_count r ≡ waiting_count w + length bs
   pub on : w.pen.octets.count ≤ r.pen.octets.count

@@ -1,67 +1,58 @@
 // Appends groups to a buffer. They are joined while they fit one number, and only then written.
 ghost use Rattle.std.specs.Prelude.{◌≡◌, ◌+◌, ◌*◌, ◌≤◌, length};
-ghost use Rattle.packing.specs.Groups.{group_bits, Fits};
-ghost use Rattle.packing.specs.Writing.{Ready};
-ghost use Rattle.packing.specs.Waiting.{Added, waiting_count, waiting_total, none_written, closed};
 
-use crate::groups::{Group, join};
-use crate::writing::{Pen, finish, put};
+use crate::groups::Group;
+use crate::pens::Pen;
 use answers::Bits;
 
-// A pen with a group whose bits wait to be written there.
+// A pen with a group whose bits wait to be written there, at most 56.
 #[derive(Clone, Copy)]
 pub(crate) struct Waiting {
     pub(crate) pen: Pen,
     pub(crate) group: Group,
+    ghost fits: { group.width.count ≤ 56 },
 }
 
-// Appends the bits of a group: to those that wait, or after these are written.
-pub(crate) fn append(out: &mut [u8], waiting: Waiting, group: Group) -> Waiting
-    requires ready { Ready waiting.pen }
-    requires fits { Fits 56 waiting.group }
-    requires fits_2 { Fits 41 group }
-    requires waiting_bound { waiting_count waiting ≤ 8 * length out.old }
-    ensures { Added out.old waiting (group_bits group) out.new result }
-{
-    let pen = waiting.pen;
-    let before = waiting.group;
-    if before.width.count + group.width.count <= 56 {
-        return Waiting {
-            pen,
-            group: join(before, group),
-        };
-    }
-    Waiting {
-        pen: put(out, pen, before),
-        group,
-    }
-}
+impl Waiting {
+    ghost use Rattle.packing.specs.Groups.{group_bits};
+    ghost use Rattle.packing.specs.Waiting.{Added, waiting_count, waiting_total, none_written, closed};
 
-// Tells whether all bits wait, and none is written yet.
-pub(crate) fn none_written(waiting: Waiting) -> bool
-    ensures { result ≡ none_written waiting }
-{
-    let pen = waiting.pen;
-    if pen.octets.count == 0 {
-        return pen.held.count == 0;
+    // Appends the bits of a group: to those that wait, or after these are written.
+    pub(crate) fn append(self, out: &mut [u8], group: Group) -> Waiting
+        requires most { group.width.count ≤ 56 }
+        requires room { waiting_count self ≤ 8 * length out.old }
+        ensures { Added out.old self (group_bits group) out.new result }
+    {
+        if self.group.width.count + group.width.count <= 56 {
+            return Waiting {
+                pen: self.pen,
+                group: self.group.join(group),
+            };
+        }
+        Waiting {
+            pen: self.pen.put(out, self.group),
+            group,
+        }
     }
-    false
-}
 
-// Writes the bits that wait, and fills the last octet with zeros. Tells how many bits were written.
-pub(crate) fn close(out: &mut [u8], waiting: Waiting) -> Bits
-    requires ready { Ready waiting.pen }
-    requires fits { Fits 56 waiting.group }
-    requires waiting_bound { waiting_count waiting ≤ 8 * length out.old }
-    requires waiting_bound_2 { waiting_count waiting ≤ 1000 }
-    ensures value { result ≡ waiting_total waiting }
-    ensures out_after { out.new ≡ closed out.old waiting }
-{
-    let pen = waiting.pen;
-    let group = waiting.group;
-    let end = put(out, pen, group);
-    finish(out, end);
-    Bits {
-        count: 8 * end.octets.count as u32 + end.held.count,
+    // Tells whether all bits wait, and none is written yet.
+    pub(crate) fn none_written(self) -> bool
+        ensures { result ≡ none_written self }
+    {
+        self.pen.octets.count == 0 && self.pen.held.count == 0
+    }
+
+    // Writes the bits that wait, and fills the last octet with zeros. Tells how many bits were written.
+    pub(crate) fn close(self, out: &mut [u8]) -> Bits
+        requires room { waiting_count self ≤ 8 * length out.old }
+        requires most { waiting_count self ≤ 1000 }
+        ensures bits { result ≡ waiting_total self }
+        ensures after { out.new ≡ closed out.old self }
+    {
+        let end = self.pen.put(out, self.group);
+        end.finish(out);
+        Bits {
+            count: 8 * end.octets.count as u32 + end.held.count,
+        }
     }
 }

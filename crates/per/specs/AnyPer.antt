@@ -1,6 +1,5 @@
 -- Unaligned PER of points and durations.
-use Rattle.std.specs.Prelude.{ℕ, List}
-use Rattle.std.proofs.Math.Option.{Option}
+use Rattle.std.specs.Prelude.{ℕ, List, Option}
 use Rattle.octets.specs.Found.{of_found}
 use Rattle.answers.specs.Outcomes.{Answer}
 use Rattle.answers.specs.declared.counts.Bits.{Bits}

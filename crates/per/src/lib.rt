@@ -4,6 +4,7 @@
 
 pub mod coding;
 pub mod duration;
+mod packed;
 
 pub use coding::{decode, encode};
 pub use duration::{decode_duration, encode_duration};

@@ -14,8 +14,7 @@ fn fraction_digits(value: Value) -> u32
 {
     match value {
         Value::Date(_) => 0,
-        Value::Time(time) => time.digits,
-        Value::DateTime(_, time) => time.digits,
+        Value::Time(time) | Value::DateTime(_, time) => time.digits,
     }
 }
 

@@ -18,16 +18,14 @@ fn number_digits(number: u32) -> usize
     ensures value { result ≡ number_digits number }
     ensures upper_bound { result ≤ 9 }
 {
-    let mut width: usize = 1;
     let mut left = number / 10;
-    while width < 9 {
+    for width in 1..9 {
         if left == 0 {
             return width;
         }
         left /= 10;
-        width += 1;
     }
-    width
+    9
 }
 
 // A component before the last one, nothing where its number is 0.
@@ -52,10 +50,8 @@ fn put_several(b: &mut [u8], at: usize, numbers: [u32; 7], first: usize, end: us
     ensures upper_bound { result ≤ at + 10 * (end - first) }
 {
     let mut p = at;
-    let mut place = first;
-    while place < end {
+    for place in first..end {
         p = put_earlier(b, p, DESIGNATORS[place], numbers[place]);
-        place += 1;
     }
     p
 }

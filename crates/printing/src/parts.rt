@@ -19,12 +19,10 @@ pub(crate) fn put_digits(b: &mut [u8], at: usize, w: usize, n: u64) -> usize
     ensures stored_text { StoredText b.old b.new at (put_digits w n) result }
     ensures value { result ≡ at + w }
 {
-    let mut m = n;
-    let mut k = w;
-    while 0 < k {
-        k -= 1;
-        b[at + k] = 48 + (m % 10) as u8;
-        m /= 10;
+    let mut left = n;
+    for k in (0..w).rev() {
+        b[at + k] = b'0' + (left % 10) as u8;
+        left /= 10;
     }
     at + w
 }
@@ -39,18 +37,12 @@ fn put_field(b: &mut [u8], at: usize, c: u8, w: usize, n: u64) -> usize
     put_digits(b, at + 1, w, n)
 }
 
-// How many digits a year takes.
+// How many digits a year takes, at least four.
 fn year_digits(n: u64) -> usize
     ensures value { result ≡ year_digits n }
     ensures upper_bound { result ≤ 20 }
 {
-    let mut w: usize = 4;
-    let mut m = n / 10000;
-    while 0 < m {
-        m /= 10;
-        w += 1;
-    }
-    w
+    n.max(1000).ilog10() as usize + 1
 }
 
 // A year.
@@ -59,18 +51,13 @@ fn put_year(b: &mut [u8], at: usize, year: Year) -> usize
     ensures stored_text { StoredText b.old b.new at (put_year year) result }
     ensures upper_bound { result ≤ at + 21 }
 {
-    let distance = year.distance();
-    match distance {
-        Distance::Before(n) => {
-            let w = year_digits(n);
-            put_field(b, at, b'-', w, n)
-        }
+    match year.distance() {
+        Distance::Before(n) => put_field(b, at, b'-', year_digits(n), n),
         Distance::Since(n) => {
             if n < 10000 {
                 return put_digits(b, at, 4, n);
             }
-            let w = year_digits(n);
-            put_field(b, at, b'+', w, n)
+            put_field(b, at, b'+', year_digits(n), n)
         }
     }
 }
@@ -200,11 +187,9 @@ fn put_time(b: &mut [u8], at: usize, time: Time) -> usize
     ensures stored_text { StoredText b.old b.new at (put_time canonical time) result }
     ensures upper_bound { result ≤ at + 24 }
 {
-    let clock = time.clock;
-    let zone = time.zone;
-    let p = put_clock(b, at, clock);
+    let p = put_clock(b, at, time.clock);
     let q = put_fraction(b, p, time.digits, time.fraction);
-    put_zone(b, q, zone)
+    put_zone(b, q, time.zone)
 }
 
 // A value.

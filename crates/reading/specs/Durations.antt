@@ -1,11 +1,11 @@
 -- What the code's answers say of a duration's components.
-use Rattle.std.specs.Prelude.{ℕ, suc, ◌+◌, ◌-◌, ◌<◌, ◌≡◌, true, false, ◌&&◌, ◌||◌, not, cond, List, [], ◌∷◌, eqb, leb, ltb, get_or, set, take, drop}
-use Rattle.std.proofs.Math.Option.{Option, some, none}
+use Rattle.std.specs.Prelude.{ℕ, suc, ◌+◌, ◌-◌, ◌<◌, ◌≡◌, true, false, ◌&&◌, ◌||◌, not, cond, List, [], ◌∷◌, eqb, ltb, get_or, set, take, drop}
+use Rattle.std.specs.Prelude.{Option, Some, None}
 use Rattle.octets.specs.Found.{Found, found, nothing, onward}
 use Rattle.texts.specs.Octets.{letter_w}
 use Rattle.durations.specs.declared.Duration.{Duration}
-use Rattle.durations.specs.Parts.{Part, absent, present, no_fraction}
-use Rattle.durations.specs.Texts.{fraction_length, get_end, get_present, get_parts}
+use Rattle.durations.specs.Parts.{Part, absent, present}
+use Rattle.durations.specs.Texts.{get_present, get_parts}
 use Rattle.reading.specs.declared.steps.Component.{Component}
 use Rattle.reading.specs.declared.steps.Tally.{Tally}
 use Rattle.reading.specs.declared.steps.Progress.{Progress}
@@ -15,21 +15,14 @@ use Rattle.reading.specs.declared.steps.Progress.{Progress}
 abbrev pub part_of : Component → Part
 part_of g = present g.number g.digits g.fraction
 
--- No component at a place.
-abbrev pub no_component : ℕ → Component
-no_component p = record { at = p; number = 0; digits = 0; fraction = no_fraction; designator = 0; next = p }
-
 -- What a designator finds: the component where it is the octet behind it.
-abbrev pub seen_part : List ℕ → Component → ℕ → Found ℕ Part
-seen_part s g c = cond (eqb g.designator c) (found (part_of g) (drop g.next s)) nothing
+abbrev pub seen_part : Option Component → ℕ → Found ℕ Part
+seen_part (Some g) c = cond (eqb g.designator c) (found (part_of g) g.rest.now) nothing
+seen_part None c = nothing
 
--- What a designator finds behind a number.
-unfoldable pub get_behind : ℕ → ℕ → List ℕ → Found ℕ Part
-get_behind c n l = cond (leb (fraction_length l) 9) (get_end c n (fraction_length l) l) nothing
-
--- That a component is what stands at its place, for every designator.
-unfoldable pub IsComponent : List ℕ → Component → Type 0
-IsComponent s g = (c : ℕ) → 0 < c → seen_part s g c ≡ get_present c (drop g.at s)
+-- That a component, or none, is what a text begins with, for every designator.
+unfoldable pub IsComponent : List ℕ → Option Component → Type 0
+IsComponent l o = (c : ℕ) → 0 < c → seen_part o c ≡ get_present c l
 
 -- ---- several
 
@@ -66,12 +59,12 @@ unfoldable pub added_by : List ℕ → List ℕ → Tally → ℕ → Found ℕ 
 added_by cs l t k = onward (get_parts cs l) λ ps r. found (with_parts t k ps) r
 
 -- The same, of what was read so far, from the component that stands next.
-abbrev pub added_from : List ℕ → List ℕ → Progress → ℕ → Found ℕ Tally
-added_from cs s g k = added_by cs (drop g.component.at s) g.tally k
+abbrev pub added_from : List ℕ → Progress → ℕ → Found ℕ Tally
+added_from cs g k = added_by cs g.rest.now g.tally k
 
 -- That what was read before a place and what was read after it give the same with the designators behind the place.
-abbrev pub Advanced : List ℕ → ℕ → Progress → Progress → Type 0
-Advanced s k g h = (cs : List ℕ) → added_from (get_or designators k 0 ∷ cs) s g k ≡ added_from cs s h (k + 1)
+abbrev pub Advanced : ℕ → Progress → Progress → Type 0
+Advanced k g h = (cs : List ℕ) → added_from (get_or designators k 0 ∷ cs) g k ≡ added_from cs h (k + 1)
 
 -- ---- the duration
 
@@ -91,10 +84,10 @@ tallied t = record {
 
 -- Some component, weeks alone, and nothing left of the text.
 abbrev pub whole_tally : Tally → List ℕ → Option Duration
-whole_tally t [] = cond (ltb 0 t.count && (eqb t.count 1 || not t.weeks)) (some (tallied t)) none
-whole_tally t (x ∷ r) = none
+whole_tally t [] = cond (ltb 0 t.count && (eqb t.count 1 || not t.weeks)) (Some (tallied t)) None
+whole_tally t (x ∷ r) = None
 
 -- "[T] followed by one or more": some component more than before `T`.
 abbrev pub timed_tally : Tally → Found ℕ Tally → Option Duration
-timed_tally t (found u r) = cond (eqb u.count t.count) none (whole_tally u r)
-timed_tally t nothing = none
+timed_tally t (found u r) = cond (eqb u.count t.count) None (whole_tally u r)
+timed_tally t nothing = None

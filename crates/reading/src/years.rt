@@ -1,11 +1,10 @@
 // Reading a year.
-ghost use Rattle.std.specs.Prelude.{◌≡◌, ◌<◌, drop};
+ghost use Rattle.std.specs.Prelude.{◌≡◌, ◌<◌};
 ghost use Rattle.calendar.specs.Years.{year_at};
 ghost use Rattle.texts.specs.Years.{longest_year, signed_fits, signed_year, get_signed, get_year};
-ghost use Rattle.reading.specs.Steps.{seen_year};
+ghost use Rattle.reading.specs.Steps.{seen};
 
-use crate::steps::{Step, YearStep};
-use crate::text_fields::{digits, leading_digits, mark};
+use crate::text_fields::{digits, leading_digits};
 use calendar::Year;
 use texts::has_digits;
 
@@ -13,13 +12,11 @@ use texts::has_digits;
 const LONGEST: usize = 9;
 
 // Whether so many digits that give a number are a year's after a sign.
+#[tactic(auto, unfolding(texts::specs::Years::signed_fits))]
 fn signed_fits(below: bool, width: usize, number: u32) -> bool
     ensures { result ≡ signed_fits longest_year below width number }
 {
-    if width < 4 {
-        return false;
-    }
-    if LONGEST < width {
+    if width < 4 || LONGEST < width {
         return false;
     }
     if width == 4 {
@@ -34,40 +31,39 @@ fn signed_year(below: bool, number: u32) -> Year
     ensures { result ≡ year_at (signed_year below number) }
 {
     if below {
-        return Year::before_zero(number);
+        Year::before_zero(number)
+    } else {
+        Year::since_zero(number)
     }
-    Year::since_zero(number)
 }
 
 // A year's digits after its sign.
-fn signed(text: &[u8], at: usize, below: bool) -> YearStep
-    ensures { seen_year text.now result ≡ get_signed longest_year below (drop at text.now) }
+#[tactic(auto, unfolding(texts::specs::Years::get_signed))]
+fn signed(text: &[u8], below: bool) -> Option<(Year, &[u8])>
+    ensures { seen result ≡ get_signed longest_year below text.now }
 {
-    let width = leading_digits(&*text, at);
+    let width = leading_digits(text);
     if LONGEST < width {
-        return YearStep::Bad;
+        return None;
     }
-    let Step::Got(number, place) = digits(&*text, at, width) else {
-        return YearStep::Bad;
-    };
-    if signed_fits(below, width, number) {
-        return YearStep::Got(signed_year(below, number), place);
+    let (number, rest) = digits(text, width)?;
+    if !signed_fits(below, width, number) {
+        return None;
     }
-    YearStep::Bad
+    Some((signed_year(below, number), rest))
 }
 
 // A year: four digits, or a sign with its digits.
-pub(crate) fn year(text: &[u8], at: usize) -> YearStep
-    ensures { seen_year text.now result ≡ get_year longest_year (drop at text.now) }
+#[tactic(auto, using(calendar::proofs::Laws::Years::year_is), unfolding(texts::specs::Years::get_year))]
+pub(crate) fn year(text: &[u8]) -> Option<(Year, &[u8])>
+    ensures { seen result ≡ get_year longest_year text.now }
 {
-    if mark(&*text, at, b'-') {
-        return signed(&*text, at + 1, true);
+    match text {
+        [b'-', rest @ ..] => signed(rest, true),
+        [b'+', rest @ ..] => signed(rest, false),
+        _ => {
+            let (number, rest) = digits(text, 4)?;
+            Some((Year::since_zero(number), rest))
+        }
     }
-    if mark(&*text, at, b'+') {
-        return signed(&*text, at + 1, false);
-    }
-    let Step::Got(number, place) = digits(&*text, at, 4) else {
-        return YearStep::Bad;
-    };
-    YearStep::Got(Year::since_zero(number), place)
 }

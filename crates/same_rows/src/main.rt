@@ -6,28 +6,29 @@
 
 ghost use Rattle.std.specs.Prelude.{◌≡◌, ◌≤◌, length, IfOk};
 
+use answers::Refusal;
 use calendar::Year;
 use octets::find;
 use settings::read_type;
 use std::io;
 use std::io::{Read, Write};
-use types::{AnyType, Limits, TypeFound, Window, same_rows};
+use types::{AnyType, Limits, TypeFound, same_rows};
 
 // Limits with a window of years, and whether hour 24 is allowed.
 fn years(lowest: i32, highest: i32, hour24: bool) -> Limits {
-    let window = Window::Within(Year::of(lowest), Year::of(highest));
+    let window = Some((Year::from(lowest), Year::from(highest)));
     Limits { window, hour24 }
 }
 
 // Limits without a window.
 fn any_year(hour24: bool) -> Limits {
-    let window = Window::Every;
+    let window = None;
     Limits { window, hour24 }
 }
 
 // Whether an octet is on the menu.
 fn on_menu(octet: u8) -> bool {
-    b'0' <= octet && octet <= b'9'
+    octet.is_ascii_digit()
 }
 
 // The limits of the menu's octets.
@@ -62,43 +63,32 @@ fn unasked_reply(out: &mut impl Write) -> io::Result<()> {
     writeln!(out, "?")
 }
 
-// The reply on what is no type: lists that share no row, or what can't be read.
-fn number_reply(out: &mut impl Write, rowless: bool) -> io::Result<()> {
-    let number = if rowless { 2 } else { 1 };
-    writeln!(out, "{number}")
-}
-
-// The reply on what was found to be no type.
-fn refusal_reply(out: &mut impl Write, found: TypeFound) -> io::Result<()> {
-    match found {
-        TypeFound::NoType(rowless) => number_reply(out, rowless),
-        _ => unasked_reply(out),
-    }
-}
-
-// Whether a type was found.
-fn is_type(found: TypeFound) -> bool {
-    match found {
-        TypeFound::NoType(_) => false,
-        _ => true,
-    }
-}
-
-// A type of durations: its settings as they are listed, or DURATION.
-fn duration_type(listed: bool) -> AnyType {
-    if listed {
-        return AnyType::ListedDuration;
-    }
-    AnyType::DURATION
+// The reply on what is no type.
+fn refusal_reply(out: &mut impl Write, refusal: Refusal) -> io::Result<()> {
+    writeln!(out, "{}", u32::from(refusal))
 }
 
 // The type that was found.
-fn type_of(found: TypeFound) -> AnyType {
+fn type_of(found: TypeFound) -> Result<AnyType, Refusal> {
     match found {
-        TypeFound::Point(t) => AnyType::Point(t),
-        TypeFound::Duration(listed) => duration_type(listed),
-        TypeFound::NoType(_) => AnyType::DURATION,
+        TypeFound::Point(t) => Ok(AnyType::Point(t)),
+        TypeFound::Duration(true) => Ok(AnyType::ListedDuration),
+        TypeFound::Duration(false) => Ok(AnyType::DURATION),
+        TypeFound::NoType(why) => Err(why),
     }
+}
+
+// The types of two texts, each under its limits: where both are none, the first text's refusal.
+fn read_types(
+    first: &[u8],
+    a: Limits,
+    second: &[u8],
+    b: Limits,
+) -> Result<(AnyType, AnyType), Refusal> {
+    Ok((
+        type_of(read_type(first, a))?,
+        type_of(read_type(second, b))?,
+    ))
 }
 
 // The reply on two types' texts with a semicolon between them, each under its limits.
@@ -107,15 +97,10 @@ fn texts_reply(out: &mut impl Write, a: Limits, b: Limits, texts: &[u8]) -> io::
     if texts.len() <= end {
         return unasked_reply(out);
     }
-    let first = read_type(&texts[..end], a);
-    if !is_type(first) {
-        return refusal_reply(out, first);
+    match read_types(&texts[..end], a, &texts[end + 1..], b) {
+        Ok((first, second)) => types_reply(out, first, second),
+        Err(refusal) => refusal_reply(out, refusal),
     }
-    let second = read_type(&texts[end + 1..], b);
-    if !is_type(second) {
-        return refusal_reply(out, second);
-    }
-    types_reply(out, type_of(first), type_of(second))
 }
 
 // The reply on two types' texts under the limits of two octets of the menu.
@@ -128,30 +113,17 @@ fn limited_reply(out: &mut impl Write, a: u8, b: u8, texts: &[u8]) -> io::Result
 
 // The reply to a line.
 fn reply(out: &mut impl Write, line: &[u8]) -> io::Result<()> {
-    let end = find(line, 0, b';');
-    if line.len() <= end {
-        return unasked_reply(out);
-    }
-    if line[0] != b'=' {
-        return unasked_reply(out);
-    }
-    match end {
-        1 => limited_reply(out, b'0', b'0', &line[2..]),
-        3 => limited_reply(out, line[1], line[2], &line[4..]),
+    match line {
+        [b'=', b';', texts @ ..] => limited_reply(out, b'0', b'0', texts),
+        [b'=', a, b, b';', texts @ ..] => limited_reply(out, *a, *b, texts),
         _ => unasked_reply(out),
     }
 }
 
 // The replies to all lines of a text. The last line needs no newline.
 fn reply_all(out: &mut impl Write, text: &[u8]) -> io::Result<()> {
-    let mut from = 0;
-    while from < text.len() {
-        let end = find(text, from, b'\n');
-        if text.len() <= end {
-            return reply(out, &text[from..]);
-        }
-        reply(out, &text[from..end])?;
-        from = end + 1;
+    for line in text.split_inclusive(|octet| *octet == b'\n') {
+        reply(out, line.strip_suffix(b"\n").unwrap_or(line))?;
     }
     Ok(())
 }

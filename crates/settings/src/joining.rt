@@ -1,13 +1,13 @@
 // Lists of a type: whether they make one row, and which Years they name.
-ghost use Rattle.std.specs.Prelude.{◌≡◌, ◌||◌, not, [], ◌∷◌, map, drop};
+ghost use Rattle.std.specs.Prelude.{◌≡◌, ◌||◌, ◌≤◌, not, length, map, Some};
 ghost use Rattle.types.specs.AnyTypes.{found_type, limited_to};
-ghost use Rattle.lists.specs.Lists.{dated_list, timed_list, year_in};
-ghost use Rattle.lists.specs.Several.{Sound, kept};
+ghost use Rattle.lists.specs.Lists.{dated_list, most_lists, timed_list, year_in};
+ghost use Rattle.settings.specs.Joined.{type_joined};
 ghost use Rattle.type_texts.specs.TypeTexts.{all_of, distinct, equal_lists, joined, list_type, member, one_row, point_type, row_in};
 ghost use Rattle.type_texts.specs.TypeTexts.{same_but_year, time_at, usable, years_of};
 
+use answers::Refusal;
 use lists::lists::{Settings, list_has_date, list_has_time};
-use lists::several::Lists;
 use lists::words::{BASIC, DATE, INTERVAL, TIME, YEAR, ZONE};
 use texts::TimeForm;
 use types::numbers::{clock_at, date_at, zone_at};
@@ -15,27 +15,17 @@ use types::types::{Limits, Type, TypeFound, has_place, unlimited};
 use types::years::{PlainYears, SignedYears, YearRow, Years, year_setting_at};
 
 // Whether one of the lists has the Year with this number.
-fn named_in(lists: Lists, number: u32) -> bool
-    requires { Sound lists }
-    ensures { result ≡ member number (map year_in (kept lists)) }
+fn named_in(lists: &[Settings], number: u32) -> bool
+    ensures { result ≡ member number (map year_in (map Some lists.now)) }
 {
-    let items = lists.items;
-    let count = lists.count;
-    let mut i = 0;
-    while i < count {
-        let item = items[i];
-        if item.numbers[YEAR] == number {
-            return true;
-        }
-        i += 1;
-    }
-    false
+    lists.iter().any(|list| list.numbers[YEAR] == number)
 }
 
 // The Years that lists of one row name.
-fn years_in(row: YearRow, lists: Lists) -> Years
-    requires { Sound lists }
-    ensures { result ≡ years_of row (map year_in (kept lists)) }
+#[inline(always)]
+#[tactic(auto, unfolding(type_texts::specs::TypeTexts::years_of))]
+fn years_of(row: YearRow, lists: &[Settings]) -> Years
+    ensures { result ≡ years_of row (map year_in (map Some lists.now)) }
 {
     match row {
         YearRow::Year => Years::Plain(PlainYears {
@@ -53,39 +43,9 @@ fn years_in(row: YearRow, lists: Lists) -> Years
     }
 }
 
-// Whether one of two Years has this number.
-fn named(a: u32, b: u32, number: u32) -> bool
-    ensures { result ≡ member number (a ∷ b ∷ []) }
-{
-    if a == number {
-        return true;
-    }
-    b == number
-}
-
-// The Years of two lists of one row, by their numbers; 0 for no second list.
-fn years_of(row: YearRow, a: u32, b: u32) -> Years
-    ensures { result ≡ years_of row (a ∷ b ∷ []) }
-{
-    match row {
-        YearRow::Year => Years::Plain(PlainYears {
-            basic: named(a, b, 1),
-            proleptic: named(a, b, 2),
-        }),
-        YearRow::AnyYear => Years::Signed(SignedYears {
-            negative: named(a, b, 3),
-            five: named(a, b, 4),
-            six: named(a, b, 5),
-            seven: named(a, b, 6),
-            eight: named(a, b, 7),
-            nine: named(a, b, 8),
-        }),
-    }
-}
-
 // How the row of a list's Year has its years.
 fn list_row(list: Settings) -> YearRow
-    ensures { result ≡ row_in list }
+    ensures { result ≡ row_in (Some list) }
 {
     year_setting_at(list.numbers[YEAR]).row()
 }
@@ -105,7 +65,7 @@ fn time_at(time: u32, zone: u32) -> TimeForm
 
 // The type of a point's list, with the Years of all lists of its row.
 fn point_type(list: Settings, years: Years) -> Type
-    ensures { result ≡ point_type list years }
+    ensures { result ≡ point_type (Some list) years }
 {
     let basic = list.numbers[BASIC];
     let date = date_at(list.numbers[DATE]);
@@ -121,17 +81,14 @@ fn point_type(list: Settings, years: Years) -> Type
 
 // Whether a list is a point's: it has a date or a time.
 fn has_point(list: Settings) -> bool
-    ensures { result ≡ (dated_list list || timed_list list) }
+    ensures { result ≡ (dated_list (Some list) || timed_list (Some list)) }
 {
-    if list_has_date(list) {
-        return true;
-    }
-    list_has_time(list)
+    list_has_date(list) || list_has_time(list)
 }
 
 // The type of a list under limits, with the Years of all lists of its row.
-fn limited_list(limits: Limits, list: Settings, years: Years) -> TypeFound
-    ensures { result ≡ found_type (limited_to limits (list_type list years)) }
+pub(crate) fn limited_list(limits: Limits, list: Settings, years: Years) -> TypeFound
+    ensures { result ≡ found_type (limited_to limits (list_type (Some list) years)) }
 {
     if !has_point(list) {
         return unlimited(true, limits);
@@ -139,176 +96,95 @@ fn limited_list(limits: Limits, list: Settings, years: Years) -> TypeFound
     point_type(list, years).limited(limits)
 }
 
-// Whether a list can be read and the limits have their place in it.
+// Whether the limits have their place in a list.
+#[tactic(auto, unfolding(type_texts::specs::TypeTexts::usable))]
 fn is_usable(limits: Limits, list: Settings) -> bool
-    ensures { result ≡ usable limits list }
+    ensures { result ≡ usable limits (Some list) }
 {
-    if !list.readable {
-        return false;
-    }
     has_place(limits, list_has_date(list), list_has_time(list))
 }
 
 // Whether two lists have the same settings, Year aside.
+#[tactic(auto, unfolding(type_texts::specs::TypeTexts::same_but_year))]
 fn same_but_year(a: Settings, b: Settings) -> bool
-    ensures { result ≡ same_but_year a b }
+    ensures { result ≡ same_but_year (Some a) (Some b) }
 {
-    if a.numbers[BASIC] != b.numbers[BASIC] {
-        return false;
-    }
-    if a.numbers[DATE] != b.numbers[DATE] {
-        return false;
-    }
-    if a.numbers[TIME] != b.numbers[TIME] {
-        return false;
-    }
-    if a.numbers[ZONE] != b.numbers[ZONE] {
-        return false;
-    }
-    a.numbers[INTERVAL] == b.numbers[INTERVAL]
+    a.numbers[BASIC] == b.numbers[BASIC]
+        && a.numbers[DATE] == b.numbers[DATE]
+        && a.numbers[TIME] == b.numbers[TIME]
+        && a.numbers[ZONE] == b.numbers[ZONE]
+        && a.numbers[INTERVAL] == b.numbers[INTERVAL]
 }
 
 // Whether two lists are equal.
+#[tactic(auto, unfolding(type_texts::specs::TypeTexts::equal_lists))]
 fn equal(list: Settings, other: Settings) -> bool
-    ensures { result ≡ equal_lists list other }
+    ensures { result ≡ equal_lists (Some list) (Some other) }
 {
-    if list.numbers[YEAR] != other.numbers[YEAR] {
-        return false;
-    }
-    same_but_year(list, other)
+    list.numbers[YEAR] == other.numbers[YEAR] && same_but_year(list, other)
 }
 
 // Whether two lists are of one row.
+#[tactic(auto, using(types::proofs::Laws::Years::row_test), unfolding(type_texts::specs::TypeTexts::one_row))]
 fn one_row(a: Settings, b: Settings) -> bool
-    ensures { result ≡ one_row a b }
+    ensures { result ≡ one_row (Some a) (Some b) }
 {
-    if !same_but_year(a, b) {
-        return false;
-    }
-    list_row(a).number() == list_row(b).number()
+    same_but_year(a, b) && list_row(a) == list_row(b)
 }
 
-// Whether all lists can be read and the limits have their place in each.
-fn all_usable(limits: Limits, lists: Lists) -> bool
-    requires { Sound lists }
-    ensures { result ≡ all_of (usable limits) (kept lists) }
+// Whether the limits have their place in each list.
+fn all_usable(limits: Limits, lists: &[Settings]) -> bool
+    ensures { result ≡ all_of (usable limits) (map Some lists.now) }
 {
-    let items = lists.items;
-    let count = lists.count;
-    let mut i = 0;
-    while i < count {
-        let item = items[i];
-        if !is_usable(limits, item) {
-            return false;
-        }
-        i += 1;
-    }
-    true
+    lists.iter().all(|list| is_usable(limits, *list))
 }
 
-// Whether a list differs from all lists from a place on.
-fn differs(lists: Lists, list: Settings, from: usize) -> bool
-    requires { Sound lists }
-    ensures { result ≡ all_of (λ t. not (equal_lists list t)) (drop from (kept lists)) }
+// Whether a list differs from all others.
+fn differs(list: Settings, others: &[Settings]) -> bool
+    ensures { result ≡ all_of (λ t. not (equal_lists (Some list) t)) (map Some others.now) }
 {
-    let items = lists.items;
-    let count = lists.count;
-    let mut i = from;
-    while i < count {
-        let other = items[i];
-        if equal(list, other) {
-            return false;
-        }
-        i += 1;
-    }
-    true
+    others.iter().all(|other| !equal(list, *other))
 }
 
 // Whether no list comes twice.
-fn all_differ(lists: Lists) -> bool
-    requires { Sound lists }
-    ensures { result ≡ distinct (kept lists) }
+fn all_differ(lists: &[Settings]) -> bool
+    ensures { result ≡ distinct (map Some lists.now) }
 {
-    let items = lists.items;
-    let count = lists.count;
-    let mut i = 0;
-    while i < count {
-        let item = items[i];
-        if !differs(lists, item, i + 1) {
+    let mut left = lists;
+    while let Some((list, others)) = left.split_first() {
+        if !differs(*list, others) {
             return false;
         }
-        i += 1;
+        left = others;
     }
     true
 }
 
-// Whether all lists from the second on are of a list's row.
-fn in_row(lists: Lists, list: Settings) -> bool
-    requires { Sound lists }
-    ensures { result ≡ all_of (one_row list) (drop 1 (kept lists)) }
+// Whether all others are of a list's row.
+fn in_row(list: Settings, others: &[Settings]) -> bool
+    ensures { result ≡ all_of (one_row (Some list)) (map Some others.now) }
 {
-    let items = lists.items;
-    let count = lists.count;
-    let mut i = 1;
-    while i < count {
-        let item = items[i];
-        if !one_row(list, item) {
-            return false;
-        }
-        i += 1;
-    }
-    true
+    others.iter().all(|other| one_row(list, *other))
 }
 
-// The type of one list under limits.
-pub(crate) fn one_list(limits: Limits, list: Settings) -> TypeFound
-    ensures { result ≡ found_type (joined limits (list ∷ [])) }
+// The first of lists that share a row, with the Years of all, or why they make no type. It is inlined: where the number of lists is known, a
+// type is read in fewer instructions so.
+#[inline(always)]
+pub(crate) fn join(limits: Limits, lists: &[Settings]) -> Result<(Settings, Years), Refusal>
+    requires { length lists.now ≤ most_lists }
+    ensures { type_joined limits result ≡ found_type (joined limits (map Some lists.now)) }
 {
-    if !is_usable(limits, list) {
-        return TypeFound::NoType(false);
-    }
-    let years = years_of(list_row(list), list.numbers[YEAR], 0);
-    limited_list(limits, list, years)
-}
-
-// The type of two lists under limits.
-pub(crate) fn two_lists(limits: Limits, list: Settings, other: Settings) -> TypeFound
-    ensures { result ≡ found_type (joined limits (list ∷ other ∷ [])) }
-{
-    if !is_usable(limits, list) {
-        return TypeFound::NoType(false);
-    }
-    if !is_usable(limits, other) {
-        return TypeFound::NoType(false);
-    }
-    if equal(list, other) {
-        return TypeFound::NoType(false);
-    }
-    if !one_row(list, other) {
-        return TypeFound::NoType(true);
-    }
-    let years = years_of(list_row(list), list.numbers[YEAR], other.numbers[YEAR]);
-    limited_list(limits, list, years)
-}
-
-// The type of more lists under limits.
-pub(crate) fn join(limits: Limits, lists: Lists) -> TypeFound
-    requires { Sound lists }
-    ensures { result ≡ found_type (joined limits (kept lists)) }
-{
-    if lists.count == 0 {
-        return TypeFound::NoType(false);
-    }
+    let Some((first, others)) = lists.split_first() else {
+        return Err(Refusal::Settings);
+    };
     if !all_usable(limits, lists) {
-        return TypeFound::NoType(false);
+        return Err(Refusal::Settings);
     }
     if !all_differ(lists) {
-        return TypeFound::NoType(false);
+        return Err(Refusal::Settings);
     }
-    let items = lists.items;
-    let first = items[0];
-    if !in_row(lists, first) {
-        return TypeFound::NoType(true);
+    if !in_row(*first, others) {
+        return Err(Refusal::Rows);
     }
-    limited_list(limits, first, years_in(list_row(first), lists))
+    Ok((*first, years_of(list_row(*first), lists)))
 }

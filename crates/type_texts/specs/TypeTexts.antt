@@ -1,5 +1,6 @@
 -- A type's text: the name of a useful time type (34 bis.4), or settings lists with `|` between them.
-use Rattle.std.specs.Prelude.{ℕ, ◌/◌, ◌%◌, Bool, true, false, not, ◌&&◌, ◌||◌, cond, List, [], ◌∷◌, map, eqb, leb, length}
+use Rattle.std.specs.Prelude.{ℕ, ◌/◌, ◌%◌, Bool, true, false, not, ◌&&◌, ◌||◌, cond, List, [], ◌∷◌, Option, map, eqb, leb, length}
+use Rattle.std.specs.Option.{is_some}
 use Rattle.octets.specs.Octets.{bytes, eq_list}
 use Rattle.octets.specs.Pieces.{split_on}
 use Rattle.types.specs.Numbers.{date_at, clock_at, zone_at}
@@ -19,25 +20,25 @@ use Rattle.types.specs.declared.types.TypeRead.{TypeRead}
 use Rattle.lists.specs.declared.lists.Settings.{Settings}
 
 -- The lists of a text, split at its bars.
-unfoldable pub lists_of : List ℕ → List Settings
+unfoldable pub lists_of : List ℕ → List (Option Settings)
 lists_of l = map list_of (split_on 124 l)
 
 -- "lists that differ only in Year" (#103): whether two have the same settings besides.
-unfoldable pub same_but_year : Settings → Settings → Bool
+unfoldable pub same_but_year : Option Settings → Option Settings → Bool
 same_but_year s t =
     eqb (basic_in s) (basic_in t) && eqb (date_in s) (date_in t) && eqb (time_in s) (time_in t) && eqb (zone_in s) (zone_in t)
     && eqb (interval_in s) (interval_in t)
 
 -- The row of a list's Year: "Basic with Proleptic", or Negative with L5 to L9 ("all of one row", #103). A list without a date has no Year.
-abbrev pub row_in : Settings → YearRow
+abbrev pub row_in : Option Settings → YearRow
 row_in s = row_of_year (year_setting_at (year_in s))
 
 -- Two lists of one row.
-unfoldable pub one_row : Settings → Settings → Bool
+unfoldable pub one_row : Option Settings → Option Settings → Bool
 one_row s t = same_but_year s t && eqb (row_number (row_in s)) (row_number (row_in t))
 
 -- "a Year twice in otherwise equal lists" (#103), and two equal lists: the same settings, in whatever order.
-unfoldable pub equal_lists : Settings → Settings → Bool
+unfoldable pub equal_lists : Option Settings → Option Settings → Bool
 equal_lists s t = same_but_year s t && eqb (year_in s) (year_in t)
 
 -- Whether all members pass a test.
@@ -46,13 +47,13 @@ all_of p [] = true
 all_of p (x ∷ l) = p x && all_of p l
 
 -- Whether no list comes twice.
-unfoldable pub distinct : List Settings → Bool
+unfoldable pub distinct : List (Option Settings) → Bool
 distinct [] = true
 distinct (s ∷ r) = all_of (λ t. not (equal_lists s t)) r && distinct r
 
 -- A list that can be read, and in which the limits have their place.
-unfoldable pub usable : Limits → Settings → Bool
-usable limits s = s.readable && placed limits (dated_list s) (timed_list s)
+unfoldable pub usable : Limits → Option Settings → Bool
+usable limits s = is_some s && placed limits (dated_list s) (timed_list s)
 
 -- Whether a number is among others.
 unfoldable pub member : ℕ → List ℕ → Bool
@@ -78,19 +79,19 @@ unfoldable pub time_at : ℕ → ℕ → TimeForm
 time_at t z = record { clock = clock_at (t % 10); digits = t / 10; zone = zone_at z }
 
 -- The type of a point's list, with the Years of all lists that share its row: the last one of a date-time.
-unfoldable pub point_type : Settings → Years → «Type»
+unfoldable pub point_type : Option Settings → Years → «Type»
 point_type s years =
     cond (eqb (basic_in s) 1) (listed (Parts.Date (unlimited_date (date_at (date_in s)) years)))
     (cond (eqb (basic_in s) 2) (listed (Parts.Time (unlimited_time (time_at (time_in s) (zone_in s)))))
     (listed (Parts.DateTime (unlimited_date (date_at (date_in s)) years) (unlimited_time (time_at (time_in s) (zone_in s))))))
 
 -- The type of a list, with the Years of all lists that share its row: a point's where it has a date or a time.
-unfoldable pub list_type : Settings → Years → AnyType
+unfoldable pub list_type : Option Settings → Years → AnyType
 list_type s years = cond (dated_list s || timed_list s) (AnyType.Point (point_type s years)) AnyType.ListedDuration
 
 -- The type of lists. "1 for more than six lists or a Year twice in otherwise equal lists" (#103), for one that is unreadable and for one in which
 -- a limit has no place; "2 for any other difference".
-unfoldable pub joined : Limits → List Settings → TypeRead
+unfoldable pub joined : Limits → List (Option Settings) → TypeRead
 joined limits [] = TypeRead.Unreadable
 joined limits (s ∷ r) =
     cond (leb (length (s ∷ r)) most_lists && all_of (usable limits) (s ∷ r) && distinct (s ∷ r))

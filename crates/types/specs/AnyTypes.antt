@@ -1,5 +1,6 @@
 -- Types of points and of durations: what a type's text gives.
 use Rattle.std.specs.Prelude.{ℕ, Bool, true, false, cond}
+use Rattle.answers.specs.declared.refusals.Refusal.{Refusal}
 use Rattle.types.specs.Types as Points
 use Rattle.types.specs.Types.{has_date, has_time, no_limits, parts_of, placed}
 use Rattle.types.specs.declared.types.AnyType.{AnyType}
@@ -50,8 +51,8 @@ abbrev pub found_type : TypeRead → TypeFound
 found_type (TypeRead.«Type» (AnyType.Point t)) = TypeFound.Point t
 found_type (TypeRead.«Type» AnyType.Duration) = TypeFound.Duration false
 found_type (TypeRead.«Type» AnyType.ListedDuration) = TypeFound.Duration true
-found_type TypeRead.Unreadable = TypeFound.NoType false
-found_type TypeRead.NoRow = TypeFound.NoType true
+found_type TypeRead.Unreadable = TypeFound.NoType Refusal.Settings
+found_type TypeRead.NoRow = TypeFound.NoType Refusal.Rows
 
 -- Those restrictions that a type carries.
 abbrev pub limits_of : AnyType → Limits

@@ -1,5 +1,6 @@
 -- "What a type is": its settings, its name, and the restrictions that it carries.
-use Rattle.std.specs.Prelude.{ℕ, Bool, true, false, ◌&&◌, ◌||◌, leb}
+use Rattle.std.specs.Prelude.{ℕ, Bool, true, false, ◌&&◌, ◌||◌, leb, Option, Some, None}
+use Rattle.calendar.specs.declared.years.Year.{Year}
 use Rattle.answers.specs.Refusals.{number_of}
 use Rattle.texts.specs.declared.forms.DateForm.{DateForm}
 use Rattle.texts.specs.declared.forms.ClockForm.{ClockForm}
@@ -9,7 +10,6 @@ use Rattle.texts.specs.declared.forms.Form.{Form}
 use Rattle.answers.specs.declared.refusals.Refusal.{Refusal}
 use Rattle.types.specs.declared.years.Years.{Years}
 use Rattle.types.specs.Years.{some_year}
-use Rattle.types.specs.declared.types.Window.{Window}
 use Rattle.types.specs.declared.types.DateType.{DateType}
 use Rattle.types.specs.declared.types.TimeType.{TimeType}
 use Rattle.types.specs.declared.types.Parts.{Parts}
@@ -26,7 +26,7 @@ type_number TypeRead.NoRow = number_of Refusal.Rows
 
 -- A date without a restriction.
 abbrev pub unlimited_date : DateForm → Years → DateType
-unlimited_date f y = record { form = f; years = y; window = Window.Every }
+unlimited_date f y = record { form = f; years = y; window = None }
 
 -- A time without a restriction.
 abbrev pub unlimited_time : TimeForm → TimeType
@@ -46,7 +46,7 @@ hms_local = unlimited_time (record { clock = ClockForm.HMS; digits = 0; zone = Z
 
 -- The type DATE.
 abbrev pub DATE : «Type»
-DATE = «Type».Date Window.Every
+DATE = «Type».Date None
 
 -- The type TIME-OF-DAY.
 abbrev pub TIME-OF-DAY : «Type»
@@ -54,7 +54,7 @@ TIME-OF-DAY = «Type».TimeOfDay true
 
 -- The type DATE-TIME.
 abbrev pub DATE-TIME : «Type»
-DATE-TIME = «Type».DateTime Window.Every true
+DATE-TIME = «Type».DateTime None true
 
 -- Whether the value has a date.
 abbrev pub has_date : Parts → Bool
@@ -69,16 +69,16 @@ has_time (Parts.Time t) = true
 has_time (Parts.DateTime d t) = true
 
 -- Whether there is no lowest and highest year.
-abbrev pub every_year : Window → Bool
-every_year Window.Every = true
-every_year (Window.Within lowest highest) = false
+abbrev pub every_year : Option (Year × Year) → Bool
+every_year None = true
+every_year (Some (lowest, highest)) = false
 
 -- "a lowest and a highest year (only where there is a date, else refusal 1), and "no hour 24" (only where there is a time, else refusal 1)"
 unfoldable pub placed : Limits → Bool → Bool → Bool
 placed limits date time = (every_year limits.window || date) && (limits.hour24 || time)
 
 -- A date with this lowest and highest year.
-abbrev pub with_window : Window → DateType → DateType
+abbrev pub with_window : Option (Year × Year) → DateType → DateType
 with_window w d = record { form = d.form; years = d.years; window = w }
 
 -- A time with or without hour 24.
@@ -114,12 +114,12 @@ carrying limits («Type».DateTime w h) = «Type».DateTime limits.window limits
 
 -- "A type may carry two restrictions": neither of them.
 abbrev pub no_limits : Limits
-no_limits = record { window = Window.Every; hour24 = true }
+no_limits = record { window = None; hour24 = true }
 
 -- "A type may carry two restrictions": those that a type carries.
 abbrev pub limits_of : Parts → Limits
 limits_of (Parts.Date d) = record { window = d.window; hour24 = true }
-limits_of (Parts.Time t) = record { window = Window.Every; hour24 = t.hour24 }
+limits_of (Parts.Time t) = record { window = None; hour24 = t.hour24 }
 limits_of (Parts.DateTime d t) = record { window = d.window; hour24 = t.hour24 }
 
 -- "`Time`: .. HFn, HMFn, HMSFn, with n from 1 to 9."

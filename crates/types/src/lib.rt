@@ -7,7 +7,5 @@ pub mod types;
 pub mod years;
 
 pub use rows::same_rows;
-pub use types::{
-    AnyType, DateType, Limits, Name, Parts, TimeType, Type, TypeFound, TypeRead, Window,
-};
+pub use types::{AnyType, DateType, Limits, Name, Parts, TimeType, Type, TypeFound, TypeRead};
 pub use years::{PlainYears, SignedYears, YearRow, YearSetting, Years, year_setting_at};

@@ -1,45 +1,10 @@
 ghost use Rattle.std.specs.Prelude.{◌≡◌};
-ghost use Rattle.types.specs.Numbers.{clock_at, clock_number, date_at, date_number, zone_at, zone_number};
+ghost use Rattle.types.specs.Numbers.{clock_at, date_at, zone_at};
 
 use texts::{ClockForm, DateForm, ZoneForm};
 
-// The number of a Date setting.
-pub fn date_number(form: DateForm) -> u32
-    ensures { result ≡ date_number form }
-{
-    match form {
-        DateForm::Y => 1,
-        DateForm::YM => 2,
-        DateForm::YMD => 3,
-        DateForm::YD => 4,
-        DateForm::YW => 5,
-        DateForm::YWD => 6,
-    }
-}
-
-// The number of a Time setting, its fraction aside.
-pub fn clock_number(form: ClockForm) -> u32
-    ensures { result ≡ clock_number form }
-{
-    match form {
-        ClockForm::H => 1,
-        ClockForm::HM => 2,
-        ClockForm::HMS => 3,
-    }
-}
-
-// The number of a Local-or-UTC setting.
-pub fn zone_number(form: ZoneForm) -> u32
-    ensures { result ≡ zone_number form }
-{
-    match form {
-        ZoneForm::L => 1,
-        ZoneForm::Z => 2,
-        ZoneForm::LD => 3,
-    }
-}
-
 // The Date setting with a number; the last one for any number above.
+#[tactic(auto, using(std::proofs::lemmas::Bool::Decides::nat_tests), unfolding(crate::specs::Numbers::date_at))]
 pub fn date_at(number: u32) -> DateForm
     ensures { result ≡ date_at number }
 {
@@ -54,6 +19,7 @@ pub fn date_at(number: u32) -> DateForm
 }
 
 // The Time setting with a number, its fraction aside; the last one for any number above.
+#[tactic(auto, using(std::proofs::lemmas::Bool::Decides::nat_tests), unfolding(crate::specs::Numbers::clock_at))]
 pub fn clock_at(number: u32) -> ClockForm
     ensures { result ≡ clock_at number }
 {
@@ -65,6 +31,7 @@ pub fn clock_at(number: u32) -> ClockForm
 }
 
 // The Local-or-UTC setting with a number; the last one for any number above.
+#[tactic(auto, using(std::proofs::lemmas::Bool::Decides::nat_tests), unfolding(crate::specs::Numbers::zone_at))]
 pub fn zone_at(number: u32) -> ZoneForm
     ensures { result ≡ zone_at number }
 {

@@ -1,4 +1,5 @@
 ghost use Rattle.std.specs.Prelude.{◌≡◌, false, cond, ◌||◌};
+ghost use Rattle.answers.specs.declared.refusals.Refusal.{Refusal};
 ghost use Rattle.types.specs.declared.types.AnyType.{AnyType};
 ghost use Rattle.types.specs.declared.types.TypeFound.{TypeFound};
 ghost use Rattle.types.specs.AnyTypes as AnyTypes;
@@ -8,22 +9,16 @@ ghost use Rattle.types.specs.Types.{listed, name_of, parts_of, placed, restricte
 ghost use Rattle.types.specs.Types.{well_formed, well_parts, with_hour24, with_window};
 
 use crate::years::{PlainYears, Years};
+use answers::Refusal;
 use calendar::Year;
 use texts::{ClockForm, DateForm, Form, TimeForm, ZoneForm};
-
-// The lowest and the highest year of a type, where it has them.
-#[derive(Clone, Copy)]
-pub enum Window {
-    Every,
-    Within(Year, Year),
-}
 
 // What a type says of its dates: their form, their Year settings, and the lowest and the highest year.
 #[derive(Clone, Copy)]
 pub struct DateType {
     pub form: DateForm,
     pub years: Years,
-    pub window: Window,
+    pub window: Option<(Year, Year)>,
 }
 
 // What a type says of its times: their form, and whether hour 24 is allowed.
@@ -47,9 +42,9 @@ pub enum Parts {
 #[derive(Clone, Copy)]
 pub enum Type {
     Listed(Parts),
-    Date(Window),
+    Date(Option<(Year, Year)>),
     TimeOfDay(bool),
-    DateTime(Window, bool),
+    DateTime(Option<(Year, Year)>, bool),
 }
 
 // The type of a point, that is of a date, a time or both; or of a duration: the useful time type DURATION, or its settings
@@ -75,14 +70,14 @@ pub enum Name {
 // allowed.
 #[derive(Clone, Copy)]
 pub struct Limits {
-    pub window: Window,
+    pub window: Option<(Year, Year)>,
     pub hour24: bool,
 }
 
 impl Limits {
     // No restriction at all.
     pub const NONE: Limits = Limits {
-        window: Window::Every,
+        window: None,
         hour24: true,
     };
 }
@@ -96,96 +91,68 @@ pub enum TypeRead {
 }
 
 // What a type's text and its limits give, as it is handed on: the type of a point by itself; a type of durations, and
-// whether its settings are listed; or no type, and whether it is readable lists that share no row.
+// whether its settings are listed; or no type, and why there is none.
 #[derive(Clone, Copy)]
 pub enum TypeFound {
     Point(Type),
     Duration(bool),
-    NoType(bool),
-}
-
-// Whether one of two tests holds.
-fn either(a: bool, b: bool) -> bool
-    ensures { result ≡ (a || b) }
-{
-    if a {
-        return true;
-    }
-    b
+    NoType(Refusal),
 }
 
 // Whether a window leaves out no year.
-fn every_year(window: Window) -> bool
+fn every_year(window: Option<(Year, Year)>) -> bool
     ensures { result ≡ every_year window }
 {
-    match window {
-        Window::Every => true,
-        Window::Within(_, _) => false,
-    }
+    window.is_none()
 }
 
 // Whether limits have their place beside a date, or a time, or both.
+#[tactic(auto, unfolding(crate::specs::Types::placed))]
 pub fn has_place(limits: Limits, date: bool, time: bool) -> bool
     ensures { result ≡ placed limits date time }
 {
-    let window = limits.window;
-    let hour24 = limits.hour24;
-    either(every_year(window), date) && either(hour24, time)
+    (every_year(limits.window) || date) && (limits.hour24 || time)
 }
 
 // Whether there is a date.
 fn has_date(parts: Parts) -> bool
     ensures { result ≡ has_date parts }
 {
-    match parts {
-        Parts::Date(_) => true,
-        Parts::Time(_) => false,
-        Parts::DateTime(_, _) => true,
-    }
+    matches!(parts, Parts::Date(_) | Parts::DateTime(_, _))
 }
 
 // Whether there is a time.
 fn has_time(parts: Parts) -> bool
     ensures { result ≡ has_time parts }
 {
-    match parts {
-        Parts::Date(_) => false,
-        Parts::Time(_) => true,
-        Parts::DateTime(_, _) => true,
-    }
+    matches!(parts, Parts::Time(_) | Parts::DateTime(_, _))
 }
 
 // A date with this lowest and highest year, in place of its own.
-fn with_window(window: Window, date: DateType) -> DateType
+fn with_window(window: Option<(Year, Year)>, date: DateType) -> DateType
     ensures { result ≡ with_window window date }
 {
-    let form = date.form;
-    let years = date.years;
-    DateType {
-        form,
-        years,
-        window,
-    }
+    DateType { window, ..date }
 }
 
 // A time with hour 24 allowed or not, in place of what it had.
 fn with_hour24(hour24: bool, time: TimeType) -> TimeType
     ensures { result ≡ with_hour24 hour24 time }
 {
-    let form = time.form;
-    TimeType { form, hour24 }
+    TimeType { hour24, ..time }
 }
 
 // Settings with these limits, in place of their own.
 fn restrict(limits: Limits, parts: Parts) -> Parts
     ensures { result ≡ restricted limits parts }
 {
-    let window = limits.window;
-    let hour24 = limits.hour24;
     match parts {
-        Parts::Date(d) => Parts::Date(with_window(window, d)),
-        Parts::Time(t) => Parts::Time(with_hour24(hour24, t)),
-        Parts::DateTime(d, t) => Parts::DateTime(with_window(window, d), with_hour24(hour24, t)),
+        Parts::Date(d) => Parts::Date(with_window(limits.window, d)),
+        Parts::Time(t) => Parts::Time(with_hour24(limits.hour24, t)),
+        Parts::DateTime(d, t) => Parts::DateTime(
+            with_window(limits.window, d),
+            with_hour24(limits.hour24, t),
+        ),
     }
 }
 
@@ -194,15 +161,9 @@ fn well_parts(parts: Parts) -> bool
     ensures { result ≡ well_parts parts }
 {
     match parts {
-        Parts::Date(d) => {
-            let years = d.years;
-            years.some()
-        }
-        Parts::Time(t) => time_digits(t) <= 9,
-        Parts::DateTime(d, t) => {
-            let years = d.years;
-            years.some() && time_digits(t) <= 9
-        }
+        Parts::Date(d) => d.years.some(),
+        Parts::Time(t) => t.form.digits <= 9,
+        Parts::DateTime(d, t) => d.years.some() && t.form.digits <= 9,
     }
 }
 
@@ -211,28 +172,10 @@ fn form_of(parts: Parts) -> Form
     ensures { result ≡ form_of_parts parts }
 {
     match parts {
-        Parts::Date(d) => {
-            let form = d.form;
-            Form::Date(form)
-        }
-        Parts::Time(t) => {
-            let form = t.form;
-            Form::Time(form)
-        }
-        Parts::DateTime(d, t) => {
-            let date = d.form;
-            let time = t.form;
-            Form::DateTime(date, time)
-        }
+        Parts::Date(d) => Form::Date(d.form),
+        Parts::Time(t) => Form::Time(t.form),
+        Parts::DateTime(d, t) => Form::DateTime(d.form, t.form),
     }
-}
-
-// The number of fraction digits of a time.
-fn time_digits(time: TimeType) -> u32
-    ensures { result ≡ time.form.digits }
-{
-    let form = time.form;
-    form.digits
 }
 
 // The number of fraction digits, 0 without a fraction.
@@ -241,17 +184,16 @@ fn digits_of(parts: Parts) -> u32
 {
     match parts {
         Parts::Date(_) => 0,
-        Parts::Time(t) => time_digits(t),
-        Parts::DateTime(_, t) => time_digits(t),
+        Parts::Time(t) | Parts::DateTime(_, t) => t.form.digits,
     }
 }
 
 // A type of durations, or that it is unreadable where there is any limit.
 pub fn unlimited(listed: bool, limits: Limits) -> TypeFound
-    ensures { result ≡ cond (placed limits false false) (TypeFound.Duration listed) (TypeFound.NoType false) }
+    ensures { result ≡ cond (placed limits false false) (TypeFound.Duration listed) (TypeFound.NoType Refusal.Settings) }
 {
     if !has_place(limits, false, false) {
-        return TypeFound::NoType(false);
+        return TypeFound::NoType(Refusal::Settings);
     }
     TypeFound::Duration(listed)
 }
@@ -263,7 +205,7 @@ const YMD_BASIC: DateType = DateType {
         basic: true,
         proleptic: false,
     }),
-    window: Window::Every,
+    window: None,
 };
 
 // The form of what TIME-OF-DAY stands for: HMS with L.
@@ -281,23 +223,22 @@ const HMS_LOCAL: TimeType = TimeType {
 
 impl Type {
     // Year, month and day of the years 1582 to 9999.
-    pub const DATE: Type = Type::Date(Window::Every);
+    pub const DATE: Type = Type::Date(None);
 
     // Hours, minutes and seconds of local time.
     pub const TIME_OF_DAY: Type = Type::TimeOfDay(true);
 
     // Year, month and day with hours, minutes and seconds of local time.
-    pub const DATE_TIME: Type = Type::DateTime(Window::Every, true);
+    pub const DATE_TIME: Type = Type::DateTime(None, true);
 
     // The type of a date with these settings.
     pub fn date(form: DateForm, years: Years) -> Type
         ensures { result ≡ listed (Parts.Date (unlimited_date form years)) }
     {
-        let window = Window::Every;
         Type::Listed(Parts::Date(DateType {
             form,
             years,
-            window,
+            window: None,
         }))
     }
 
@@ -312,11 +253,10 @@ impl Type {
     pub fn date_time(form: DateForm, years: Years, time: TimeForm) -> Type
         ensures { result ≡ listed (Parts.DateTime (unlimited_date form years) (unlimited_time time)) }
     {
-        let window = Window::Every;
         let date = DateType {
             form,
             years,
-            window,
+            window: None,
         };
         let clock = TimeType {
             form: time,
@@ -356,23 +296,22 @@ impl Type {
     fn carry(self, limits: Limits) -> Type
         ensures { result ≡ carrying limits self }
     {
-        let window = limits.window;
-        let hour24 = limits.hour24;
         match self {
             Type::Listed(parts) => Type::Listed(restrict(limits, parts)),
-            Type::Date(_) => Type::Date(window),
-            Type::TimeOfDay(_) => Type::TimeOfDay(hour24),
-            Type::DateTime(_, _) => Type::DateTime(window, hour24),
+            Type::Date(_) => Type::Date(limits.window),
+            Type::TimeOfDay(_) => Type::TimeOfDay(limits.hour24),
+            Type::DateTime(_, _) => Type::DateTime(limits.window, limits.hour24),
         }
     }
 
     // The type with these limits in place of its own, or that it is unreadable where one of them has no place.
+    #[tactic(auto, unfolding(crate::specs::AnyTypes::limited_to))]
     pub fn limited(self, limits: Limits) -> TypeFound
         ensures { result ≡ found_type (limited_to limits (AnyType.Point self)) }
     {
         let parts = self.settings();
         if !has_place(limits, has_date(parts), has_time(parts)) {
-            return TypeFound::NoType(false);
+            return TypeFound::NoType(Refusal::Settings);
         }
         TypeFound::Point(self.carry(limits))
     }
@@ -383,9 +322,7 @@ impl Type {
     {
         match self {
             Type::Listed(parts) => well_parts(parts),
-            Type::Date(_) => true,
-            Type::TimeOfDay(_) => true,
-            Type::DateTime(_, _) => true,
+            Type::Date(_) | Type::TimeOfDay(_) | Type::DateTime(_, _) => true,
         }
     }
 
@@ -407,9 +344,7 @@ impl Type {
     {
         match self {
             Type::Listed(parts) => digits_of(parts),
-            Type::Date(_) => 0,
-            Type::TimeOfDay(_) => 0,
-            Type::DateTime(_, _) => 0,
+            Type::Date(_) | Type::TimeOfDay(_) | Type::DateTime(_, _) => 0,
         }
     }
 }
@@ -430,6 +365,7 @@ impl AnyType {
     }
 
     // The type with these limits in place of its own, or that it is unreadable where one of them has no place.
+    #[tactic(auto, unfolding(crate::specs::AnyTypes::limited_to))]
     pub fn limited(self, limits: Limits) -> TypeFound
         ensures { result ≡ found_type (limited_to limits self) }
     {
@@ -446,8 +382,7 @@ impl AnyType {
     {
         match self {
             AnyType::Point(t) => t.well_formed(),
-            AnyType::Duration => true,
-            AnyType::ListedDuration => true,
+            AnyType::Duration | AnyType::ListedDuration => true,
         }
     }
 
@@ -457,8 +392,7 @@ impl AnyType {
     {
         match self {
             AnyType::Point(t) => t.fraction_digits(),
-            AnyType::Duration => 0,
-            AnyType::ListedDuration => 0,
+            AnyType::Duration | AnyType::ListedDuration => 0,
         }
     }
 }

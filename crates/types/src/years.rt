@@ -1,8 +1,8 @@
 ghost use Rattle.std.specs.Prelude.{◌≡◌};
-ghost use Rattle.types.specs.Years.{row_number, row_of_year, some_year, year_setting_at, years_row};
+ghost use Rattle.types.specs.Years.{row_of_year, some_year, year_setting_at, years_row};
 
 // A Year setting. For Ln a year has n digits after a sign.
-#[derive(Clone, Copy)]
+#[derive(Clone, Copy, PartialEq, Eq)]
 pub enum YearSetting {
     Basic,
     Proleptic,
@@ -17,21 +17,21 @@ pub enum YearSetting {
 // How a row of X.691's Table 2 has its years. For Basic and Proleptic it is YEAR-ENCODING (28 bis.2.3), the choice of
 // immediate (2005 to 2020), near-future (2021 to 2276), near-past (1749 to 2004) and remainder. For Negative and Ln it is
 // ANY-YEAR-ENCODING (28 bis.2.4), an unconstrained whole number.
-#[derive(Clone, Copy)]
+#[derive(Clone, Copy, PartialEq, Eq)]
 pub enum YearRow {
     Year,
     AnyYear,
 }
 
 // Which of the Year settings without a sign a type names.
-#[derive(Clone, Copy)]
+#[derive(Clone, Copy, PartialEq, Eq)]
 pub struct PlainYears {
     pub basic: bool,
     pub proleptic: bool,
 }
 
 // Which of the Year settings with a sign a type names.
-#[derive(Clone, Copy)]
+#[derive(Clone, Copy, PartialEq, Eq)]
 pub struct SignedYears {
     pub negative: bool,
     pub five: bool,
@@ -42,13 +42,14 @@ pub struct SignedYears {
 }
 
 // The Year settings that a type names, of one row.
-#[derive(Clone, Copy)]
+#[derive(Clone, Copy, PartialEq, Eq)]
 pub enum Years {
     Plain(PlainYears),
     Signed(SignedYears),
 }
 
 // The Year setting with a number; the last one for any number above.
+#[tactic(auto, using(std::proofs::lemmas::Bool::Decides::nat_tests), unfolding(crate::specs::Years::year_setting_at))]
 pub fn year_setting_at(number: u32) -> YearSetting
     ensures { result ≡ year_setting_at number }
 {
@@ -70,60 +71,15 @@ impl YearSetting {
         ensures { result ≡ row_of_year self }
     {
         match self {
-            YearSetting::Basic => YearRow::Year,
-            YearSetting::Proleptic => YearRow::Year,
-            YearSetting::Negative => YearRow::AnyYear,
-            YearSetting::L5 => YearRow::AnyYear,
-            YearSetting::L6 => YearRow::AnyYear,
-            YearSetting::L7 => YearRow::AnyYear,
-            YearSetting::L8 => YearRow::AnyYear,
-            YearSetting::L9 => YearRow::AnyYear,
+            YearSetting::Basic | YearSetting::Proleptic => YearRow::Year,
+            YearSetting::Negative
+            | YearSetting::L5
+            | YearSetting::L6
+            | YearSetting::L7
+            | YearSetting::L8
+            | YearSetting::L9 => YearRow::AnyYear,
         }
     }
-}
-
-impl YearRow {
-    // The number of the row, to tell it from the other one.
-    pub fn number(self) -> u32
-        ensures { result ≡ row_number self }
-    {
-        match self {
-            YearRow::Year => 1,
-            YearRow::AnyYear => 2,
-        }
-    }
-}
-
-// Whether some Year without a sign is named.
-fn some_plain(y: PlainYears) -> bool
-    ensures { result ≡ some_year (Years.Plain y) }
-{
-    if y.basic {
-        return true;
-    }
-    y.proleptic
-}
-
-// Whether some Year with a sign is named.
-fn some_signed(y: SignedYears) -> bool
-    ensures { result ≡ some_year (Years.Signed y) }
-{
-    if y.negative {
-        return true;
-    }
-    if y.five {
-        return true;
-    }
-    if y.six {
-        return true;
-    }
-    if y.seven {
-        return true;
-    }
-    if y.eight {
-        return true;
-    }
-    y.nine
 }
 
 impl Years {
@@ -138,12 +94,13 @@ impl Years {
     }
 
     // Whether some Year is named.
+    #[tactic(auto, using(crate::proofs::Laws::Years::some_plain, crate::proofs::Laws::Years::some_signed))]
     pub fn some(self) -> bool
         ensures { result ≡ some_year self }
     {
         match self {
-            Years::Plain(y) => some_plain(y),
-            Years::Signed(y) => some_signed(y),
+            Years::Plain(y) => y.basic || y.proleptic,
+            Years::Signed(y) => y.negative || y.five || y.six || y.seven || y.eight || y.nine,
         }
     }
 }

@@ -1,14 +1,12 @@
 -- What the code's answers say of a duration's bits, as answers of readings.
-use Rattle.std.specs.Prelude.{ℕ, zero, suc, ◌/◌, ◌%◌, ◌^◌, ◌≤◌, ◌≡◌, Bool, true, cond, List, [], ◌∷◌, map, ltb, get_or, length}
-use Rattle.std.proofs.Math.Option.{Option, some, none}
+use Rattle.std.specs.Prelude.{ℕ, zero, suc, ◌/◌, ◌%◌, ◌^◌, ◌≤◌, ◌≡◌, Bool, List, [], ◌∷◌, map, ltb, get_or, length, Option, Some, None, IfSome}
+use Rattle.answers.specs.declared.counts.Bits.{Bits}
 use Rattle.octets.specs.Found.{Found, found, nothing}
 use Rattle.fields.specs.Readings.{Reading, give, ◌>>=◌, require, run}
 use Rattle.durations.specs.declared.Duration.{Duration}
 use Rattle.durations.specs.Parts.{Part, absent, present, no_fraction, numbers}
 use Rattle.durations.specs.Fields.{roots}
 use Rattle.durations.specs.Readings.{read_extended, read_numbers, Tail, tail}
-use Rattle.unpacking.specs.declared.duration.NumbersRead.{NumbersRead}
-use Rattle.unpacking.specs.declared.duration.TailStep.{TailStep}
 use Rattle.unpacking.specs.Steps.{rest}
 
 -- The seven presence bits of an octet.
@@ -16,7 +14,7 @@ abbrev pub bits_in : ℕ → List ℕ
 bits_in o = (o / 128 % 2) ∷ (o / 64 % 2) ∷ (o / 32 % 2) ∷ (o / 16 % 2) ∷ (o / 8 % 2) ∷ (o / 4 % 2) ∷ (o / 2 % 2) ∷ []
 
 -- The number of one component by its presence bit, 0 where it is not present.
-unfoldable pub read_place : ℕ → ℕ → Reading ℕ
+abbrev pub read_place : ℕ → ℕ → Reading ℕ
 read_place r zero = give 0
 read_place r (suc b) = read_extended 0 r >>= λ n. require (ltb n (10 ^ 9)) (give n)
 
@@ -38,22 +36,24 @@ bare_parts bs = map (λ b. part_of b 0) bs
 abbrev pub after_presences : {A : Type 0} → List ℕ → Reading A → Found Bool A
 after_presences s t = run t (rest s (record { count = 8 }))
 
-abbrev pub seen_numbers : List ℕ → List ℕ → NumbersRead → Found Bool (List Part)
-seen_numbers s bs r = cond r.readable (found (parts_from bs r.values) (rest s r.at)) nothing
+-- The numbers that were read after the presence bits of an octet, and the place after them; or nothing.
+abbrev pub seen_numbers : List ℕ → List ℕ → Option (List ℕ × Bits) → Found Bool (List Part)
+seen_numbers s bs (Some r) = found (parts_from bs r.0) (rest s r.1)
+seen_numbers s bs None = nothing
 
--- The numbers that were read after the presence bits of an octet.
-pub record NumbersAfter (s : List ℕ) (o : ℕ) (r : NumbersRead) : Type 0 where
+pub record NumbersAfter (s : List ℕ) (o : ℕ) (r : Option (List ℕ × Bits)) : Type 0 where
   pub is : seen_numbers s (bits_in o) r ≡ after_presences s (read_numbers roots (bits_in o))
-  pub values : r.readable ≡ true → numbers (parts_from (bits_in o) r.values) ≡ r.values
-  pub count : length r.values ≡ 7
-  pub near : r.at.count ≤ 295
+  pub values : IfSome r (λ n. numbers (parts_from (bits_in o) n.0) ≡ n.0)
+  pub count : IfSome r (λ n. length n.0 ≡ 7)
+  pub near : IfSome r (λ n. n.1.count ≤ 295)
 
-abbrev pub seen_tail : TailStep → Option Tail
-seen_tail (TailStep.Got d f) = some (tail d f)
-seen_tail TailStep.Nothing = none
+-- The digits of a fraction and the number that they give; or nothing.
+abbrev pub seen_tail : Option (ℕ × ℕ) → Option Tail
+seen_tail (Some t) = Some (tail t.0 t.1)
+seen_tail None = None
 
 -- The duration of numbers.
-unfoldable pub duration_from : List ℕ → ℕ → ℕ → ℕ → Duration
+abbrev pub duration_from : List ℕ → ℕ → ℕ → ℕ → Duration
 duration_from ns last d f = record {
   last = last;
   years = get_or ns 0 0;

@@ -1,154 +1,132 @@
 // Reading a duration: DURATION-INTERVAL-ENCODING (X.691 28 bis.6.1).
-ghost use Rattle.std.specs.Prelude.{◌≡◌, ◌+◌, ◌/◌, ◌^◌, ◌≤◌, ◌<◌, get_or};
+#![tactic(auto, using(crate::proofs::Laws::Extended::extended))]
+
+ghost use Rattle.std.specs.Prelude.{◌≡◌, ◌+◌, ◌/◌, ◌≤◌, ◌<◌, get_or, IfSome};
 ghost use Rattle.octets.specs.Found.{of_found};
-ghost use Rattle.fields.specs.Fields.{width as width_of};
 ghost use Rattle.fields.specs.Readings.{run};
-ghost use Rattle.durations.specs.Parts.{last_in, well_made};
 ghost use Rattle.durations.specs.Fields.{roots};
+ghost use Rattle.durations.specs.Parts.{last_in, well_made};
 ghost use Rattle.durations.specs.Readings.{read_extended, read_tail, duration_in_octets};
-ghost use Rattle.durations.specs.Answers.{duration_in};
-ghost use Rattle.unpacking.specs.Steps.{rest, seen, place as place_of};
+ghost use Rattle.unpacking.specs.Steps.{rest, seen};
 ghost use Rattle.unpacking.specs.Durations.{read_place, bits_in, bare_parts, NumbersAfter, seen_tail, duration_from};
 
-use crate::numbers::{Step, field, natural, power};
+use crate::numbers::{Range, field, natural};
 use answers::Bits;
-use durations::{Duration, DurationRead};
+use durations::Duration;
 use texts::has_digits;
 
-// How many numbers each component has in its range, from 0, and the range's width: years, months, weeks, days, hours,
-// minutes, seconds.
-const RANGES: [u32; 7] = [32, 16, 64, 32, 32, 64, 64];
+// The ranges of months, of weeks, minutes and seconds, and of years, days and hours, each from 0.
+const MONTHS: Range = Range {
+    count: 16,
+    width: Bits { count: 4 },
+};
 
-const WIDTHS: [u32; 7] = [5, 4, 6, 5, 5, 6, 6];
+const UP_TO_63: Range = Range {
+    count: 64,
+    width: Bits { count: 6 },
+};
 
-// The numbers of the components, 0 where one is not present, with the place after them; or nothing that can be read.
-#[derive(Clone, Copy)]
-struct NumbersRead {
-    readable: bool,
-    values: [u32; 7],
-    at: Bits,
-}
+const UP_TO_31: Range = Range {
+    count: 32,
+    width: Bits { count: 5 },
+};
 
-// The digits of a fraction and the number that they give, or nothing.
-#[derive(Clone, Copy)]
-pub enum TailStep {
-    Got(u32, u32),
-    Nothing,
-}
+// The ranges of the digits of a fraction and of its value, each from 1.
+const DIGITS: Range = Range {
+    count: 3,
+    width: Bits { count: 2 },
+};
 
-// An octet as a number.
-fn wide(octet: u8) -> u32
-    ensures value { result ≡ octet }
-    ensures upper_bound { result < 256 }
-{
-    octet as u32
-}
+const FRACTIONS: Range = Range {
+    count: 999,
+    width: Bits { count: 10 },
+};
 
 // A number of an extensible range, which has so many numbers from the lowest on. The bit for "outside of the range" and the
 // bits of the range are read as one number.
-fn extended(octets: &[u8], at: Bits, lowest: u32, width: Bits, range: u32) -> Step
-    requires count_bound { at.count ≤ 800 }
-    requires lowest_bound { lowest ≤ 1 }
-    requires count_bound_2 { width.count ≤ 10 }
-    requires count_value { width.count ≡ width_of range }
-    requires range_bound { range ≤ 2 ^ width.count }
-    ensures result_value { seen octets.now result ≡ run (read_extended lowest range) (rest octets.now at) }
-    ensures result_bound { place_of result ≤ at.count + 41 }
+fn extended(octets: &[u8], at: Bits, lowest: u32, range: Range) -> Option<(u32, Bits)>
+    requires place { at.count ≤ 800 }
+    requires lowest { lowest ≤ 1 }
+    ensures value { seen octets.now result ≡ run (read_extended lowest range.count) (rest octets.now at) }
+    ensures end { IfSome result (λ r. r.1.count ≤ at.count + 41) }
 {
     let both = Bits {
-        count: width.count + 1,
+        count: range.width.count + 1,
     };
-    let Step::Got(number, end) = field(&*octets, at, both) else {
-        return Step::Nothing;
+    let (number, end) = field(octets, at, both)?;
+    if number < range.count {
+        return Some((lowest + number, end));
+    }
+    if number < 1 << range.width.count {
+        return None;
+    }
+    let after_bit = Bits {
+        count: at.count + 1,
     };
-    if number < range {
-        return Step::Got(lowest + number, end);
-    }
-    if (number as u64) < power(width.count) {
-        return Step::Nothing;
-    }
-    natural(
-        &*octets,
-        Bits {
-            count: at.count + 1,
-        },
-    )
+    natural(octets, after_bit)
 }
 
-// The number of the component at a place: 0 where it is not present, nothing where it has more than nine digits.
-fn number(octets: &[u8], at: Bits, place: u32, present: u32) -> Step
-    requires count_bound { at.count ≤ 700 }
-    requires place_bound { place < 7 }
-    ensures result_value { seen octets.now result ≡ run (read_place (get_or roots place 0) present) (rest octets.now at) }
-    ensures result_bound { place_of result ≤ at.count + 41 }
+// The number of a component by its presence bit: 0 where it is not present, nothing where it has more than nine digits.
+fn number(octets: &[u8], at: Bits, range: Range, present: u32) -> Option<(u32, Bits)>
+    requires { at.count ≤ 700 }
+    ensures value { seen octets.now result ≡ run (read_place range.count present) (rest octets.now at) }
+    ensures end { IfSome result (λ r. r.1.count ≤ at.count + 41) }
 {
     if present == 0 {
-        return Step::Got(0, at);
+        return Some((0, at));
     }
-    let width = Bits {
-        count: WIDTHS[place as usize],
-    };
-    let Step::Got(number, end) = extended(&*octets, at, 0, width, RANGES[place as usize]) else {
-        return Step::Nothing;
-    };
+    let (number, end) = extended(octets, at, 0, range)?;
     if number < 1000000000 {
-        return Step::Got(number, end);
+        return Some((number, end));
     }
-    Step::Nothing
+    None
 }
 
-// The numbers of the components that the presence bits name, after these bits.
-fn numbers(octets: &[u8], bits: u32) -> NumbersRead
+// The range of the component at a place: years, months, weeks, days, hours, minutes, seconds.
+fn range_at(place: usize) -> Range
+    requires { place < 7 }
+    ensures { result.count ≡ get_or roots place 0 }
+{
+    match place {
+        1 => MONTHS,
+        2 | 5 | 6 => UP_TO_63,
+        _ => UP_TO_31,
+    }
+}
+
+// The numbers of the components that the presence bits name, 0 where one is not present, after these bits.
+fn numbers(octets: &[u8], bits: u32) -> Option<([u32; 7], Bits)>
     requires { bits < 256 }
     ensures { NumbersAfter octets.now bits result }
 {
     let mut values = [0u32; 7];
     let mut at = Bits { count: 8 };
-    let mut place = 0;
-    while place < 7 {
+    for place in 0..7usize {
         let present = (bits >> (7 - place)) % 2;
-        let Step::Got(value, next) = number(&*octets, at, place, present) else {
-            return NumbersRead {
-                readable: false,
-                values,
-                at,
-            };
-        };
-        values[place as usize] = value;
+        let (value, next) = number(octets, at, range_at(place), present)?;
+        values[place] = value;
         at = next;
-        place += 1;
     }
-    NumbersRead {
-        readable: true,
-        values,
-        at,
-    }
+    Some((values, at))
 }
 
 // A fraction: 1 to 9 digits, and the number that they give; 0 and 0 where it is not present.
-fn tail(octets: &[u8], at: Bits, present: u32) -> TailStep
+fn tail(octets: &[u8], at: Bits, present: u32) -> Option<(u32, u32)>
     requires { at.count ≤ 700 }
     ensures { seen_tail result ≡ of_found (run (read_tail present) (rest octets.now at)) }
 {
     if present == 0 {
-        return TailStep::Got(0, 0);
+        return Some((0, 0));
     }
-    let Step::Got(digits, next) = extended(&*octets, at, 1, Bits { count: 2 }, 3) else {
-        return TailStep::Nothing;
-    };
-    if digits < 1 {
-        return TailStep::Nothing;
+    let (digits, next) = extended(octets, at, 1, DIGITS)?;
+    if digits < 1 || 9 < digits {
+        return None;
     }
-    if 9 < digits {
-        return TailStep::Nothing;
-    }
-    let Step::Got(fraction, _) = extended(&*octets, next, 1, Bits { count: 10 }, 999) else {
-        return TailStep::Nothing;
-    };
+    let (fraction, _) = extended(octets, next, 1, FRACTIONS)?;
     if has_digits(fraction, digits) {
-        return TailStep::Got(digits, fraction);
+        return Some((digits, fraction));
     }
-    TailStep::Nothing
+    None
 }
 
 // Whether presence bits name some component, and weeks only alone.
@@ -160,16 +138,13 @@ fn well_made(bits: u32) -> bool
     if components == 0 {
         return false;
     }
-    if components == 16 {
-        return true;
-    }
-    components / 16 % 2 == 0
+    components == 16 || components / 16 % 2 == 0
 }
 
 // The last place of those that presence bits name.
 fn last_place(bits: u32) -> u32
-    requires bits_bound { bits < 256 }
-    requires bound { 1 ≤ bits / 2 }
+    requires octet { bits < 256 }
+    requires component { 1 ≤ bits / 2 }
     ensures { result ≡ last_in (bare_parts (bits_in bits)) }
 {
     6 - u32::trailing_zeros(bits / 2)
@@ -194,24 +169,14 @@ fn duration_of(values: [u32; 7], last: u32, digits: u32, fraction: u32) -> Durat
 }
 
 // What octets give: a duration with its zero components gone, or nothing.
-pub fn unpack_duration(octets: &[u8]) -> DurationRead
-    ensures { result ≡ duration_in (duration_in_octets octets.now) }
+pub fn unpack_duration(octets: &[u8]) -> Option<Duration>
+    ensures { result ≡ duration_in_octets octets.now }
 {
-    if octets.len() == 0 {
-        return DurationRead::Nothing;
-    }
-    let bits = wide(octets[0]);
-    let numbers = numbers(&*octets, bits);
-    if !numbers.readable {
-        return DurationRead::Nothing;
-    }
-    let at = numbers.at;
-    let TailStep::Got(digits, fraction) = tail(&*octets, at, bits % 2) else {
-        return DurationRead::Nothing;
-    };
+    let bits = u32::from(*octets.first()?);
+    let (values, at) = numbers(octets, bits)?;
+    let (digits, fraction) = tail(octets, at, bits % 2)?;
     if !well_made(bits) {
-        return DurationRead::Nothing;
+        return None;
     }
-    let values = numbers.values;
-    DurationRead::Duration(duration_of(values, last_place(bits), digits, fraction))
+    Some(duration_of(values, last_place(bits), digits, fraction))
 }

@@ -5,37 +5,33 @@ ghost use Rattle.held_values.specs.Admission.{judged, admitted};
 use crate::existence::value_exists;
 use crate::holding::in_type;
 use answers::Refusal;
-use held_values::{Admission, Judgement};
 use reading::read_text;
-use texts::{TextRead, Value};
+use texts::Value;
 use types::Type;
 
 // A value of the type's form: whether it exists, and whether it is in the type.
-pub fn judge(t: Type, value: Value) -> Judgement
+#[tactic(auto, unfolding(held_values::specs::Admission::judged))]
+pub fn judge(t: Type, value: Value) -> Result<(), Refusal>
     ensures { result ≡ judged t value }
 {
     if !value_exists(value) {
-        return Judgement::Refused(Refusal::Existence);
+        return Err(Refusal::Existence);
     }
-    if in_type(t, value) {
-        return Judgement::Held;
+    if !in_type(t, value) {
+        return Err(Refusal::Membership);
     }
-    Judgement::Refused(Refusal::Membership)
+    Ok(())
 }
 
 // What a text of any octets gives under any type.
-pub fn admit(t: Type, text: &[u8]) -> Admission
+#[tactic(auto, unfolding(held_values::specs::Admission::admitted))]
+pub fn admit(t: Type, text: &[u8]) -> Result<Value, Refusal>
     ensures { result ≡ admitted t text.now }
 {
     if !t.well_formed() {
-        return Admission::Refused(Refusal::Settings);
+        return Err(Refusal::Settings);
     }
-    let TextRead::Value(value, _) = read_text(t.form(), &*text) else {
-        return Admission::Refused(Refusal::Form);
-    };
-    let judgement = judge(t, value);
-    match judgement {
-        Judgement::Held => Admission::Value(value),
-        Judgement::Refused(why) => Admission::Refused(why),
-    }
+    let (value, _) = read_text(t.form(), text).ok_or(Refusal::Form)?;
+    judge(t, value)?;
+    Ok(value)
 }

@@ -10,16 +10,14 @@ pub mod written;
 pub use admission::{admit, judge};
 pub use answers::{Bits, Octets, Outcome, Refusal, deliver};
 pub use existence::{time_exists, value_exists};
-pub use held_values::{Admission, Judgement};
 pub use holding::{holds, in_type};
 pub use printing::{TEXT_CAPACITY, text_into};
 pub use reading::read_text;
 pub use texts::{
-    Clock, ClockForm, DateForm, Difference, Form, Spelling, TextRead, Time, TimeForm, Value, Zone,
-    ZoneForm,
+    Clock, ClockForm, DateForm, Difference, Form, Spelling, Time, TimeForm, Value, Zone, ZoneForm,
 };
 pub use types::{
     AnyType, DateType, Limits, Name, Parts, PlainYears, SignedYears, TimeType, Type, TypeFound,
-    TypeRead, Window, Years, same_rows,
+    TypeRead, Years, same_rows,
 };
 pub use written::{deliver_text, write_text};

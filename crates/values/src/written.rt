@@ -21,6 +21,7 @@ pub fn deliver_text(value: Value, bits: Bits, room: &mut [u8]) -> Outcome
 
 // Puts the text of a value at the front of the room, and reports the bits of the encoding that it was read from; or
 // refuses where there is no such value, or the room is shorter than the text.
+#[tactic(auto, unfolding(held_values::specs::Written::written, answers::specs::Outcomes::outcome_of, answers::specs::Outcomes::room_of))]
 pub fn write_text(value: Value, bits: Bits, room: &mut [u8]) -> Outcome
     ensures value { result ≡ outcome_of (written bits value) room.old }
     ensures room_after { room.new ≡ room_of (written bits value) room.old }

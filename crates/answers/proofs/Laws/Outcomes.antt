@@ -71,15 +71,19 @@ module _ (result room : List ℕ) (bits : Bits) where
   unfolding outcome_of room_of fits
   short h = let t = lt-leb (length result) (length room) h in (simp t, simp t)
 
+-- What is to be shown of code that gives an answer in a room: what it returns, and what the room holds then.
+abbrev pub Given : Answer → List ℕ → Outcome → List ℕ → Type 0
+Given answer room r m = record { value : r ≡ outcome_of answer room; room_after : m ≡ room_of answer room }
+
 module _ (result room : List ℕ) (bits : Bits) {r : Outcome} {m : List ℕ} where
   -- what is to be shown of code that refuses for the room and leaves it, and of code that puts the result into it
   pub left_out : length room < length result → r ≡ refusal Refusal.Room → m ≡ room
-      → (r ≡ outcome_of (done result bits) room) × (m ≡ room_of (done result bits) room)
-  left_out h e f = let k = short result room bits h in (e ∙ sym k.0, f ∙ sym k.1)
+      → Given (done result bits) room r m
+  left_out h e f = let k = short result room bits h in record { value = e ∙ sym k.0; room_after = f ∙ sym k.1 }
 
   pub put_in : length result ≤ length room → r ≡ success result bits → m ≡ result ++ drop (length result) room
-      → (r ≡ outcome_of (done result bits) room) × (m ≡ room_of (done result bits) room)
-  put_in h e f = let k = enough result room bits h in (e ∙ sym k.0, f ∙ sym k.1)
+      → Given (done result bits) room r m
+  put_in h e f = let k = enough result room bits h in record { value = e ∙ sym k.0; room_after = f ∙ sym k.1 }
 
 pub none : (why : Refusal) (room : List ℕ) → (outcome_of (refused why) room ≡ refusal why) × (room_of (refused why) room ≡ room)
 unfolding outcome_of room_of

@@ -1,8 +1,8 @@
 -- What holds of points and durations in any encoding.
+use Rattle.std.specs.Prelude.{Option, Some, None}
 use mathlib.Core.Path.{◌≡◌, refl, ap, sym, ◌∙◌}
 use mathlib.Core.Bool.{true, false≢true}
 use mathlib.Core.List.{List}
-use mathlib.Core.Option.{Option, some, none}
 use Prim.Native.Nat.{ℕ, ◌≤◌}
 use native.Mathlib.Omega.{arith}
 use lib.ListN.{length}
@@ -38,18 +38,18 @@ use Rattle.any_values.proofs.Laws.Texts.{duration_head, no-duration, no_point, p
 
 -- ---- what is given
 
-pub point_given : (o : Option Value) (v : AnyValue) → as_point o ≡ some v → (w : Value) × (o ≡ some w) × (v ≡ AnyValue.Point w)
-point_given (some w) v e = (w, refl, let q : v ≡ AnyValue.Point w = cc in q)
-point_given none v e = absurd (let z : ◌≡◌ {A = ℕ} 0 1 = cc in omega arith)
+pub point_given : (o : Option Value) (v : AnyValue) → as_point o ≡ Some v → (w : Value) × (o ≡ Some w) × (v ≡ AnyValue.Point w)
+point_given (Some w) v e = (w, refl, let q : v ≡ AnyValue.Point w = cc in q)
+point_given None v e = absurd (let z : ◌≡◌ {A = ℕ} 0 1 = cc in omega arith)
 
-pub duration_given : (o : Option Duration) (v : AnyValue) → as_duration o ≡ some v → (d : Duration) × (o ≡ some d) × (v ≡ AnyValue.Duration d)
-duration_given (some d) v e = (d, refl, let q : v ≡ AnyValue.Duration d = cc in q)
-duration_given none v e = absurd (let z : ◌≡◌ {A = ℕ} 0 1 = cc in omega arith)
+pub duration_given : (o : Option Duration) (v : AnyValue) → as_duration o ≡ Some v → (d : Duration) × (o ≡ Some d) × (v ≡ AnyValue.Duration d)
+duration_given (Some d) v e = (d, refl, let q : v ≡ AnyValue.Duration d = cc in q)
+duration_given None v e = absurd (let z : ◌≡◌ {A = ℕ} 0 1 = cc in omega arith)
 
 -- ---- the texts
 
 -- A text that gives a value is one of the value's texts.
-text-of : (f : AnyForm) (l : List ℕ) (v : AnyValue) → read_text f l ≡ some v → (s : AnySpelling) × (l ≡ render s v)
+text-of : (f : AnyForm) (l : List ℕ) (v : AnyValue) → read_text f l ≡ Some v → (s : AnySpelling) × (l ≡ render s v)
 text-of (AnyForm.Point f) l v e =
     let p = point_given (of_text (read_of f l)) v e in
     let x = Points.text-of f l p.0 (read_of f l) refl p.1 in
@@ -62,7 +62,7 @@ text-of AnyForm.Duration l v e =
     (s, x.is ∙ ap (render s) (sym p.2))
 
 -- The text of a point gives no duration, and that of a duration no point.
-point_only : (v : Value) → read_text AnyForm.Duration (Texts.text_of v) ≡ none
+point_only : (v : Value) → read_text AnyForm.Duration (Texts.text_of v) ≡ None
 point_only v = ap as_duration (no-duration (Texts.text_of v) (point_head canonical.point v))
 
 -- A text has at most 72 octets.
@@ -72,7 +72,7 @@ text_most (AnyValue.Duration d) h = duration-length Durations.canonical d h
 
 module _ {R : Type 0} (E : Encoding AnyType AnyForm R AnyValue) where
   -- Any text of a value that a type holds is read as it.
-  pub text-read : (t : AnyType) (v : AnyValue) → Holds (encoded_by E) t v → (s : AnySpelling) → read_text (form_of t) (render s v) ≡ some v
+  pub text-read : (t : AnyType) (v : AnyValue) → Holds (encoded_by E) t v → (s : AnySpelling) → read_text (form_of t) (render s v) ≡ Some v
   text-read (AnyType.Point t) (AnyValue.Point v) h s = ap (λ x. as_point (of_text x)) (held_read t v (holds_both t v h.real h.inside) s.point)
   text-read (AnyType.Point t) (AnyValue.Duration d) h s = absurd (false≢true h.inside)
   text-read AnyType.Duration (AnyValue.Point v) h s = absurd (false≢true h.inside)
@@ -81,14 +81,14 @@ module _ {R : Type 0} (E : Encoding AnyType AnyForm R AnyValue) where
   text-read AnyType.ListedDuration (AnyValue.Duration d) h s = ap as_duration (read-duration s.duration d h.real)
 
   -- No point has a text of a duration.
-  other_than_point : {C : Type 0} (f : AnyForm) (d : Duration) (w : AnyValue) → (f ≡ AnyForm.Duration → C) → read_text f (duration_text d) ≡ some w → C
+  other_than_point : {C : Type 0} (f : AnyForm) (d : Duration) (w : AnyValue) → (f ≡ AnyForm.Duration → C) → read_text f (duration_text d) ≡ Some w → C
   other_than_point AnyForm.Duration d w g e = g refl
   other_than_point (AnyForm.Point f) d w g e =
       absurd (let n = sym (ap as_point (no_point f (duration_text d) (duration_head Durations.canonical d))) ∙ e in
       let z : ◌≡◌ {A = ℕ} 0 1 = cc in omega arith)
 
   -- The canonical text of a value that a type holds is of no other form than the type's.
-  one_form : (t : AnyType) (v : AnyValue) → Holds (encoded_by E) t v → (f : AnyForm) (w : AnyValue) → read_text f (text_of v) ≡ some w → form_of t ≡ f
+  one_form : (t : AnyType) (v : AnyValue) → Holds (encoded_by E) t v → (f : AnyForm) (w : AnyValue) → read_text f (text_of v) ≡ Some w → form_of t ≡ f
   one_form (AnyType.Point t) (AnyValue.Point v) h (AnyForm.Point f) w e =
       let p = point_given (of_text (read_of f (Texts.text_of v))) w e in
       ap AnyForm.Point (held-form t v (holds_both t v h.real h.inside) f p.0 p.1)

@@ -1,7 +1,7 @@
 -- Under a point's type everything is as the kind of points has it.
+use Rattle.std.specs.Prelude.{Option, Some, None}
 use mathlib.Core.Path.{◌≡◌, refl}
 use mathlib.Core.List.{List}
-use mathlib.Core.Option.{Option, some, none}
 use Prim.Native.Nat.{ℕ}
 use Rattle.texts.specs.Texts.{read_of}
 use Rattle.texts.specs.declared.forms.Form.{Form}
@@ -32,8 +32,8 @@ module _ {R : Type 0} (E : Encoding AnyType AnyForm R AnyValue) (B : Encoding Ty
   point-encoded text = rw (go (of_text (read_of (form_of t) text)))
     where
       go : (o : Option Value) → judged_text (encoded_by E) (AnyType.Point t) (as_point o) ≡ judged_text (Points.encoded_by B) t o
-      go none = unfold judged_text in refl
-      go (some v) = unfold judged_text judged_as in rw (X.row_is t, X.encoding-is (B.row t) v, X.count-is (B.row t) v)
+      go None = unfold judged_text in refl
+      go (Some v) = unfold judged_text judged_as in rw (X.row_is t, X.encoding-is (B.row t) v, X.count-is (B.row t) v)
 
   -- Under a point's type the decoder answers as that of points.
   pub point-decoded : (octets : List ℕ) → decoded (encoded_by E) (AnyType.Point t) octets ≡ decoded (Points.encoded_by B) t octets
@@ -41,5 +41,5 @@ module _ {R : Type 0} (E : Encoding AnyType AnyForm R AnyValue) (B : Encoding Ty
   point-decoded octets = rw (X.row_is t, X.octets_are (B.row t) (form_of t) octets, go (B.read_octets (B.row t) (form_of t) octets))
     where
       go : (o : Option Value) → judged_octets (encoded_by E) (AnyType.Point t) octets (as_point o) ≡ judged_octets (Points.encoded_by B) t octets o
-      go none = unfold judged_octets in refl
-      go (some v) = unfold judged_octets judged_as compared in rw (X.row_is t, X.encoding-is (B.row t) v, X.count-is (B.row t) v)
+      go None = unfold judged_octets in refl
+      go (Some v) = unfold judged_octets judged_as compared in rw (X.row_is t, X.encoding-is (B.row t) v, X.count-is (B.row t) v)

@@ -1,8 +1,8 @@
 -- The text of a duration begins with `P`, and that of a point with another octet: so none is a text of both.
+use Rattle.std.specs.Prelude.{None, Option, Some}
 use mathlib.Core.Path.{◌≡◌, refl, ap, sym, ◌∙◌}
 use mathlib.Core.Bool.{Bool, true, false, cond, false≢true}
 use mathlib.Core.List.{List, ◌∷◌, ◌++◌, append_assoc}
-use mathlib.Core.Option.{none}
 use Prim.Native.Nat.{ℕ, ◌+◌, ◌/◌, ◌%◌}
 use native.Mathlib.Omega.{arith}
 use lib.Dec.{eqb, ltb}
@@ -17,7 +17,6 @@ use Rattle.texts.specs.Texts.{read_of, render}
 use Rattle.texts.specs.Times.{put_clock, put_time}
 use Rattle.texts.specs.Years.{longest_year, year_digits, year_text}
 use Rattle.texts.specs.declared.forms.Form.{Form}
-use Rattle.texts.specs.declared.texts.TextRead.{TextRead}
 use Rattle.texts.specs.declared.values.Clock.{Clock}
 use Rattle.texts.specs.declared.values.Spelling.{Spelling}
 use Rattle.texts.specs.declared.values.Value.{Value}
@@ -63,16 +62,16 @@ duration_head s d = refl
 -- ---- so none is a text of both
 
 -- A text that does not begin with `P` is no duration's.
-pub no-duration : (l : List ℕ) → eqb (first_octet l) letter_p ≡ false → read_duration l ≡ none
+pub no-duration : (l : List ℕ) → eqb (first_octet l) letter_p ≡ false → read_duration l ≡ None
 unfolding read_duration get_duration
 no-duration l e = rw e
 
 -- A text that begins with `P` is no point's.
-pub no_point : (f : Form) (l : List ℕ) → first_octet l ≡ letter_p → of_text (read_of f l) ≡ none
+pub no_point : (f : Form) (l : List ℕ) → first_octet l ≡ letter_p → of_text (read_of f l) ≡ None
 no_point f l e = go (read_of f l) refl
   where
-    go : (r : TextRead) → read_of f l ≡ r → of_text r ≡ none
-    go TextRead.NotOfForm q = refl
-    go (TextRead.Value v s) q =
+    go : (r : Option (Value × Spelling)) → read_of f l ≡ r → of_text r ≡ None
+    go None q = refl
+    go (Some (v, s)) q =
         let x = (render_read longest_year (omega arith) (omega arith) f l v s q).0 in
         absurd (false≢true (sym (point_head s v) ∙ eq-eqb _ _ (ap first_octet (sym x) ∙ e)))

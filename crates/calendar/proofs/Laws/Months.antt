@@ -7,6 +7,7 @@ use native.Mathlib.Omega.{arith}
 use lib.Dec.{leb}
 use lib.IntN.{ℤ}
 use lib.ListN.{length, get_or, get_or-eq_default}
+use mir.Val.{bool_byte}
 use borrow.Author.Tests.{leb-true}
 use Rattle.octets.proofs.Laws.Cases.{both}
 use Rattle.calendar.specs.Years.{leap_of, year_length_of}
@@ -17,6 +18,11 @@ pub month_at : (y : ℤ) (k : ℕ) → 1 ≤ k → month_length_of y k ≡ get_o
 unfolding month_length_of
 month_at y zero h = absurd (let z : ◌≡◌ {A = ℕ} 0 1 = omega arith in omega arith)
 month_at y (suc k) h = ap (λ (m : ℕ). get_or (cond (leap_of y) leap_row common_row) m 0) (omega arith)
+
+-- The row of the table, by its place: 1 for a leap year.
+pub row_there : (leap : Bool) (k : ℕ) → get_or (get_or (common_row ∷ leap_row ∷ []) (bool_byte leap) []) k 0 ≡ get_or (cond leap leap_row common_row) k 0
+row_there true k = refl
+row_there false k = refl
 
 -- There is no month 0 and none above 12.
 pub no_month_0 : (y : ℤ) (k : ℕ) → k ≡ 0 → month_length_of y k ≡ 0

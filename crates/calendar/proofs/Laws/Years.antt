@@ -1,4 +1,5 @@
 -- A `Year` and its astronomical year: which number is which year, that no two numbers are one year, and the order.
+use Rattle.std.specs.Prelude.{Some, None}
 use mathlib.Core.Path.{◌≡◌, refl, sym, ap, ◌∙◌}
 use mathlib.Core.Bool.{Bool, true, false}
 use Prim.Native.Nat.{ℕ, suc, ◌+◌, ◌-◌, ◌≤◌, ◌<◌}
@@ -7,8 +8,9 @@ use lib.Dec.{leb}
 use lib.IntN.{ℤ, pos, negsuc, neg_ℤ, ◌+ℤ◌, sub_ℕ}
 use lib.Signed.{le_z, mag}
 use borrow.Author.Tests.{le-leb, lt-leb, leb-true, leb-false}
+use Rattle.std.proofs.lemmas.Bool.Decides.{nat_tests}
+use Rattle.std.specs.Ordering.{is_le, nat_cmp}
 use Rattle.calendar.specs.declared.years.Year.{Year}
-use Rattle.calendar.specs.declared.years.Astronomical.{Astronomical}
 use Rattle.calendar.specs.declared.years.Distance.{Distance}
 use Rattle.calendar.specs.Years.{astronomical_of, year_at, distance_of, in32}
 use Rattle.calendar.proofs.Laws.Integers as Z
@@ -48,6 +50,13 @@ order a b =
     (λ k q. sym (le-leb a.number b.number (omega arith)))
     (λ k q. same_test k j a.number b.number _ refl (λ h. omega arith) (λ h. omega arith)))
 
+number_test : (a b : ℕ) → is_le (nat_cmp a b) ≡ leb a b
+number_test a b = grind (arith, nat_tests)
+
+-- Years are compared by their numbers.
+pub order_test : (a b : Year) → is_le (nat_cmp a.number b.number) ≡ le_z (astronomical_of a) (astronomical_of b)
+order_test a b = rw (order a b) (number_test a.number b.number)
+
 -- Years and astronomical years give each other back.
 pub year_back : (year : Year) → year_at (astronomical_of year) ≡ year
 unfolding year_at
@@ -86,12 +95,12 @@ pub distance_before : (k : ℕ) → distance_of (negsuc k) ≡ Distance.Before (
 distance_before k = refl
 
 -- 32 bits hold the years whose magnitude, `mag`, is below 2147483648, and no others; the magnitude of -(k + 1) is k.
-pub in32-within : (y : ℤ) → mag y < 2147483648 → in32 y ≡ Astronomical.Within y
+pub in32-within : (y : ℤ) → mag y < 2147483648 → in32 y ≡ Some y
 unfolding in32
 in32-within (pos k) h = simp (le-leb k 2147483647 (omega arith))
 in32-within (negsuc k) h = simp (le-leb k 2147483647 (omega arith))
 
-pub in32_outside : (y : ℤ) → 2147483648 ≤ mag y → in32 y ≡ Astronomical.Outside
+pub in32_outside : (y : ℤ) → 2147483648 ≤ mag y → in32 y ≡ None
 unfolding in32
 in32_outside (pos k) h = simp (lt-leb k 2147483647 (omega arith))
 in32_outside (negsuc k) h = simp (lt-leb k 2147483647 (omega arith))

@@ -1,9 +1,9 @@
--- Each line lies in the text, and each reply in the output.
+-- Each line lies in the text.
 use Rattle.std.proofs.Common.{length, ◌-◌, ◌≤◌}
 use Rattle.convert.proofs.reply_all.Given as goal
 
 abbrev pub invariant-loop-from : goal.invariant-loop-from
-invariant-loop-from g l = (l.from ≤ length l.text) × (l.used ≤ length l.output)
+invariant-loop-from g l = l.from ≤ length l.text
 
 abbrev pub decreases-loop-from : goal.decreases-loop-from
 decreases-loop-from g l = length l.text - l.from

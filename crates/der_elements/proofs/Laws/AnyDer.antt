@@ -1,8 +1,8 @@
 -- DER of points and durations meets what is asked of a kind.
+use Rattle.std.specs.Prelude.{Option, Some, None}
 use mathlib.Core.Path.{◌≡◌, refl, ap, sym, ◌∙◌}
 use mathlib.Core.Bool.{true, false≢true}
 use mathlib.Core.List.{List}
-use mathlib.Core.Option.{Option, some, none}
 use Prim.Native.Nat.{ℕ, ◌≤◌}
 use native.Mathlib.Omega.{arith}
 use lib.ListN.{length}
@@ -69,7 +69,7 @@ unfolding contents_of
 listed-contents l = without_none l
 
 -- The contents of a point's text give no duration.
-point-contents : (t : Ty) (v : Value) → read_duration_contents (Types.name_of t) (contents_of (Types.name_of t) (Texts.text_of v)) ≡ none
+point-contents : (t : Ty) (v : Value) → read_duration_contents (Types.name_of t) (contents_of (Types.name_of t) (Texts.text_of v)) ≡ None
 point-contents (Ty.Listed p) v =
     ap read_duration (listed-contents (Texts.text_of v)) ∙ no-duration (Texts.text_of v) (point_head canonical.point v)
 point-contents (Ty.Date w) v = refl
@@ -98,7 +98,7 @@ module _ (d : Duration) (e : exists_duration d ≡ true) where
 
 -- The element of a point gives no duration.
 point-element : (t : Ty) (v : Value) → exists_value v ≡ true
-    → read_duration_element (Types.name_of t) (element (Types.name_of t) (contents_of (Types.name_of t) (Texts.text_of v))) ≡ none
+    → read_duration_element (Types.name_of t) (element (Types.name_of t) (contents_of (Types.name_of t) (Texts.text_of v))) ≡ None
 unfolding read_duration_element
 point-element t v e =
     under-tag (Types.name_of t) (read_duration_contents (Types.name_of t)) (contents_of (Types.name_of t) (Texts.text_of v))
@@ -121,7 +121,7 @@ element_gives AnyType.ListedDuration (AnyValue.Duration d) h f = listed_gives d 
 
 -- ---- a lawful kind
 
-octets_read : (t : AnyType) (v : AnyValue) → Holds der t v → read_element (name_of t) (form_of t) (element_of (name_of t) v) ≡ some v
+octets_read : (t : AnyType) (v : AnyValue) → Holds der t v → read_element (name_of t) (form_of t) (element_of (name_of t) v) ≡ Some v
 octets_read t v h = element_gives t v h (form_of t) ∙ text-read in_der t v h canonical
 
 pub der_lawful : Lawful der
@@ -152,10 +152,10 @@ der-decoded-short = decoded-short in_der
 module _ (text : List ℕ) where
   encodes : (t : AnyType) → OfDurations t → (o : Option Duration) → read_duration text ≡ o → judged_text der t (as_duration o) ≡ encoded_duration (name_of t) o
   unfolding judged_text judged_as element_of
-  encodes t TypeLaws.named none r = refl
-  encodes t TypeLaws.as_listed none r = refl
-  encodes t TypeLaws.named (some d) r = rw (read_only text d r).exists
-  encodes t TypeLaws.as_listed (some d) r = rw (read_only text d r).exists
+  encodes t TypeLaws.named None r = refl
+  encodes t TypeLaws.as_listed None r = refl
+  encodes t TypeLaws.named (Some d) r = rw (read_only text d r).exists
+  encodes t TypeLaws.as_listed (Some d) r = rw (read_only text d r).exists
 
   pub duration-encodes : (t : AnyType) → OfDurations t → der_encoded t text ≡ encoded_duration (name_of t) (read_duration text)
   unfolding encoded
@@ -166,10 +166,10 @@ module _ (octets : List ℕ) where
   decodes : (t : AnyType) → OfDurations t → (o : Option Duration) → read_duration_element (name_of t) octets ≡ o
       → judged_octets der t octets (as_duration o) ≡ decoded_duration (name_of t) octets o
   unfolding judged_octets judged_as compared element_of
-  decodes t TypeLaws.named none r = refl
-  decodes t TypeLaws.as_listed none r = refl
-  decodes t TypeLaws.named (some d) r = rw (duration-reads Name.Duration d octets r).1.exists
-  decodes t TypeLaws.as_listed (some d) r = rw (duration-reads Name.Listed d octets r).1.exists
+  decodes t TypeLaws.named None r = refl
+  decodes t TypeLaws.as_listed None r = refl
+  decodes t TypeLaws.named (Some d) r = rw (duration-reads Name.Duration d octets r).1.exists
+  decodes t TypeLaws.as_listed (Some d) r = rw (duration-reads Name.Listed d octets r).1.exists
 
   pub duration-decodes : (t : AnyType) → OfDurations t → der_decoded t octets ≡ decoded_duration (name_of t) octets (read_duration_element (name_of t) octets)
   unfolding decoded

@@ -1,9 +1,9 @@
 -- Checked elements have the octets that the reference gives: some of each tag, written and read; spellings that are read besides; and octets
 -- that give nothing. Those of durations follow. Only a table refuses a tag or a length that writer and reader share.
+use Rattle.std.specs.Prelude.{Option, Some, None}
 use mathlib.Core.Path.{◌≡◌, refl}
 use mathlib.Core.Bool.{true, false}
 use mathlib.Core.List.{List, [], ◌∷◌}
-use mathlib.Core.Option.{Option, some, none}
 use Prim.Native.Nat.{ℕ}
 use Prim.Native.String.{String}
 use lib.IntN.{pos, negsuc}
@@ -72,15 +72,15 @@ data Coding : Type 0 where
 said : List Row → List Coding
 unfolding hex
 said [] = []
-said (date name d octets ∷ l) = coding (hex octets) (some (Value.Date d)) ∷ said l
-said (time name c n f z octets ∷ l) = coding (hex octets) (some (Value.Time (at c n f z))) ∷ said l
-said (both name d c n f z octets ∷ l) = coding (hex octets) (some (Value.DateTime d (at c n f z))) ∷ said l
-said (loose_date name d octets ∷ l) = reading (some (Value.Date d)) ∷ said l
-said (loose_time name c n f z octets ∷ l) = reading (some (Value.Time (at c n f z))) ∷ said l
-said (loose_both name d c n f z octets ∷ l) = reading (some (Value.DateTime d (at c n f z))) ∷ said l
-said (no_date name octets ∷ l) = reading none ∷ said l
-said (no_time name octets ∷ l) = reading none ∷ said l
-said (no_both name octets ∷ l) = reading none ∷ said l
+said (date name d octets ∷ l) = coding (hex octets) (Some (Value.Date d)) ∷ said l
+said (time name c n f z octets ∷ l) = coding (hex octets) (Some (Value.Time (at c n f z))) ∷ said l
+said (both name d c n f z octets ∷ l) = coding (hex octets) (Some (Value.DateTime d (at c n f z))) ∷ said l
+said (loose_date name d octets ∷ l) = reading (Some (Value.Date d)) ∷ said l
+said (loose_time name c n f z octets ∷ l) = reading (Some (Value.Time (at c n f z))) ∷ said l
+said (loose_both name d c n f z octets ∷ l) = reading (Some (Value.DateTime d (at c n f z))) ∷ said l
+said (no_date name octets ∷ l) = reading None ∷ said l
+said (no_time name octets ∷ l) = reading None ∷ said l
+said (no_both name octets ∷ l) = reading None ∷ said l
 
 -- What the definitions make of them.
 reads : Name → Form → String → Option Value
@@ -224,9 +224,9 @@ data DurationCoding : Type 0 where
 said_durations : List DurationRow → List DurationCoding
 unfolding hex
 said_durations [] = []
-said_durations (duration name d octets ∷ l) = writing (hex octets) (some d) ∷ said_durations l
-said_durations (loose_duration name d octets ∷ l) = given (some d) ∷ said_durations l
-said_durations (no_duration name octets ∷ l) = given none ∷ said_durations l
+said_durations (duration name d octets ∷ l) = writing (hex octets) (Some d) ∷ said_durations l
+said_durations (loose_duration name d octets ∷ l) = given (Some d) ∷ said_durations l
+said_durations (no_duration name octets ∷ l) = given None ∷ said_durations l
 
 -- What the definitions make of them.
 reads_duration : Name → String → Option Duration

@@ -1,5 +1,7 @@
 -- Contents are the text without its separators, and these can be put back.
+use Rattle.std.specs.Prelude.{Option}
 use mathlib.Core.Path.{◌≡◌, refl, ap, ◌∙◌}
+use Rattle.calendar.specs.declared.years.Year.{Year}
 use mathlib.Core.Bool.{Bool, true, false, cond, or-false, false≢true}
 use mathlib.Core.List.{List, [], ◌∷◌, ◌++◌, append_assoc, append-nil}
 use Prim.Native.Nat.{ℕ, zero, suc, ◌+◌, ◌/◌, ◌%◌, ◌≤◌, ◌<◌}
@@ -30,7 +32,6 @@ use Rattle.texts.proofs.Laws.Digits.{is_digit_lem, length_put}
 use Rattle.durations.specs.Texts.{letter_p}
 use Rattle.types.specs.Types.{hms_local, with_window, ymd_basic}
 use Rattle.types.specs.declared.types.Name.{Name}
-use Rattle.types.specs.declared.types.Window.{Window}
 use Rattle.held_values.specs.Holding.{admits_date}
 use Rattle.types.specs.Years.{between, in_setting, in_years}
 use Rattle.types.specs.declared.years.YearSetting.{YearSetting}
@@ -142,7 +143,7 @@ unfolding between year_text
 basic_year (pos n) e = (n, simp (lt-ltb n 10000 (omega (arith, leb-true n 9999 (both (leb 1582 n) (leb n 9999) e).1))))
 basic_year (negsuc k) e = absurd (false≢true e)
 
-pub date-fields : (w : Window) (d : Date) → date_form d ≡ DateForm.YMD → admits_date (with_window w ymd_basic) d ≡ true
+pub date-fields : (w : Option (Year × Year)) (d : Date) → date_form d ≡ DateForm.YMD → admits_date (with_window w ymd_basic) d ≡ true
     → (n m k : ℕ) × (put_date d ≡ fields_text hyphen 4 n m k)
 unfolding put_date put_after in_years
 date-fields w (Date.YMD y m k) f e =

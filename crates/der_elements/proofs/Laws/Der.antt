@@ -1,4 +1,6 @@
 -- DER meets what is asked of a kind.
+use Rattle.std.specs.Prelude.{Option, Some}
+use Rattle.calendar.specs.declared.years.Year.{Year}
 use mathlib.Core.Path.{◌≡◌, refl, ap, sym, ◌∙◌}
 use mathlib.Core.Bool.{true, cond}
 use mathlib.Core.List.{List, [], ◌∷◌, ◌++◌, append-nil}
@@ -27,14 +29,12 @@ use Rattle.texts.specs.declared.values.Time.{Time}
 use Rattle.texts.specs.declared.values.Value.{Value}
 use Rattle.types.specs.Types.{form_of, hms_local, name_of, parts_of, with_window, ymd_basic}
 use Rattle.types.specs.declared.types.Name.{Name}
-use Rattle.types.specs.declared.types.Window.{Window}
 use Rattle.types.specs.declared.types.«Type».{«Type» as Ty}
 use Rattle.held_values.specs.Admission.{admitted, judged}
 use Rattle.held_values.specs.Existence.{exists_value}
 use Rattle.held_values.specs.Holding.{admits, admits_date}
 use Rattle.held_values.proofs.Laws.Existing.{exists-digits}
 use Rattle.held_values.proofs.Laws.Holding.{in-type}
-use mathlib.Core.Option.{Option, some}
 use Rattle.kinds.specs.Coding.{judged_as}
 use Rattle.kinds.specs.Lawful.{Accepted, Holds, Lawful}
 use Rattle.kinds.proofs.Laws.Coding as Coding
@@ -102,7 +102,7 @@ date_time_text d e = put_date d ++ letter_t ∷ put_time canonical e
 
 -- The contents of a value that a type holds give what its text does.
 module _ (form : Form) where
-  date_contents : (w : Window) (d : Date) → date_form d ≡ DateForm.YMD → admits_date (with_window w ymd_basic) d ≡ true
+  date_contents : (w : Option (Year × Year)) (d : Date) → date_form d ≡ DateForm.YMD → admits_date (with_window w ymd_basic) d ≡ true
       → read_contents Name.Date form (contents_of Name.Date (put_date d)) ≡ of_text (read_of form (put_date d))
   unfolding contents_of without
   date_contents w d f e =
@@ -120,7 +120,7 @@ module _ (form : Form) where
       ap (contents_of Name.TimeOfDay) (q.3 ∙ sym (append-nil _)) ∙ fields-kept colon 2 q.0 q.1 q.2 Name.TimeOfDay [] refl ∙ append-nil _ in
       rw (k, fields_only 2 q.0 q.1 q.2, fields_back colon 2 q.0 q.1 q.2, q.3)
 
-  date_time_contents : (w : Window) (d : Date) (e : Time)
+  date_time_contents : (w : Option (Year × Year)) (d : Date) (e : Time)
       → date_form d ≡ DateForm.YMD → time_form e ≡ hms_local.form → admits_date (with_window w ymd_basic) d ≡ true
       → read_contents Name.DateTime form (contents_of Name.DateTime (date_time_text d e)) ≡ of_text (read_of form (date_time_text d e))
   unfolding contents_of without all_digits
@@ -168,7 +168,7 @@ element_gives t v h form =
     under-tag (name_of t) (read_contents (name_of t) form) (contents_of (name_of t) (text_of v)) (let m = length_most (name_of t) v h.real in omega arith)
     ∙ own_contents form t v i.0 i.1
 
-octets_read : (t : Ty) (v : Value) → Holds der t v → read_element (name_of t) (form_of t) (element_of (name_of t) v) ≡ some v
+octets_read : (t : Ty) (v : Value) → Holds der t v → read_element (name_of t) (form_of t) (element_of (name_of t) v) ≡ Some v
 octets_read t v h = element_gives t v h (form_of t) ∙ text-read in_der t v h canonical
 
 pub der_lawful : Lawful der

@@ -1,14 +1,12 @@
 -- The contents of a duration are its text, or its text without the `P`, which stands at its front and nowhere else.
+use Rattle.std.specs.Prelude.{Some}
 use mathlib.Core.Path.{◌≡◌, refl, ap, sym, ◌∙◌}
 use mathlib.Core.Bool.{Bool, true, false, cond}
 use mathlib.Core.List.{List, [], ◌∷◌, ◌++◌, append_assoc, append-nil}
-use mathlib.Core.Option.{some}
 use Prim.Native.Nat.{ℕ, ◌≤◌}
 use native.Mathlib.Omega.{arith}
 use lib.Dec.{eqb}
-use lib.ListN.{length, take}
-use Rattle.answers.specs.Outcomes.{done, outcome_of, room_of}
-use Rattle.answers.specs.declared.outcomes.Outcome.{Outcome}
+use lib.ListN.{length}
 use Rattle.texts.specs.Digits.{put_digits}
 use Rattle.texts.specs.Octets.{comma, letter_t, stop}
 use Rattle.texts.specs.Times.{put_fraction}
@@ -22,12 +20,11 @@ use Rattle.durations.specs.declared.Duration.{Duration}
 use Rattle.durations.proofs.Laws.Sizes.{duration-length}
 use Rattle.durations.proofs.Laws.Texts.{read-duration}
 use Rattle.durations.proofs.Laws.Values.{read_only}
-use Rattle.der_elements.specs.Der.{no_bits}
 use Rattle.der_elements.specs.Elements.{contents_of, element, omits, without}
 use Rattle.der_elements.specs.Loose.{ReadableDuration, StandsForDuration}
 use Rattle.der_elements.specs.Readings.{read_duration_contents, read_duration_element}
 use Rattle.der_elements.proofs.Laws.Contents.{element_size, kept-digits, without_most, without_none}
-use Rattle.der_elements.proofs.Laws.Der.{own_written, under-tag}
+use Rattle.der_elements.proofs.Laws.Der.{under-tag}
 use Rattle.der_elements.proofs.Laws.Loose.{tag_all, tag_only}
 
 -- ---- behind the `P` there is none
@@ -115,7 +112,7 @@ element_most name d e = let s = element_size name (contents_of name (duration_te
 
 -- The element of a duration gives it.
 pub duration-element : (name : Name) → DurationName name → (d : Duration) → exists_duration d ≡ true
-    → read_duration_element name (element name (contents_of name (duration_text d))) ≡ some d
+    → read_duration_element name (element name (contents_of name (duration_text d))) ≡ Some d
 unfolding read_duration_element
 duration-element name n d e =
     under-tag name (read_duration_contents name) (contents_of name (duration_text d)) (let m = length_most name d e in omega arith)
@@ -123,7 +120,7 @@ duration-element name n d e =
 
 -- ---- what is read
 
-contents_only : (name : Name) (d : Duration) (l : List ℕ) → read_duration_contents name l ≡ some d
+contents_only : (name : Name) (d : Duration) (l : List ℕ) → read_duration_contents name l ≡ Some d
     → (s : DurationSpelling) × StandsForDuration name l (render_duration s d) × (exists_duration d ≡ true)
 contents_only Name.Listed d l e = let r = read_only l d e in (r.spelling, sym r.is, r.exists)
 contents_only Name.Date d l e = absurd (let z : ◌≡◌ {A = ℕ} 0 1 = cc in omega arith)
@@ -132,7 +129,7 @@ contents_only Name.DateTime d l e = absurd (let z : ◌≡◌ {A = ℕ} 0 1 = cc
 contents_only Name.Duration d l e = let r = read_only (letter_p ∷ l) d e in (r.spelling, sym r.is, r.exists)
 
 contents_all : (name : Name) (d : Duration) (l : List ℕ) (s : DurationSpelling) → StandsForDuration name l (render_duration s d) → exists_duration d ≡ true
-    → read_duration_contents name l ≡ some d
+    → read_duration_contents name l ≡ Some d
 contents_all Name.Listed d l s t e = ap read_duration (sym t) ∙ read-duration s d e
 contents_all Name.Date d l s t e = absurd t
 contents_all Name.TimeOfDay d l s t e = absurd t
@@ -140,7 +137,7 @@ contents_all Name.DateTime d l s t e = absurd t
 contents_all Name.Duration d l s t e = ap read_duration (sym t) ∙ read-duration s d e
 
 -- What is read is an element of the duration, and something after it.
-pub duration-reads : (name : Name) (d : Duration) (octets : List ℕ) → read_duration_element name octets ≡ some d
+pub duration-reads : (name : Name) (d : Duration) (octets : List ℕ) → read_duration_element name octets ≡ Some d
     → (rest : List ℕ) × ReadableDuration name d octets rest
 unfolding read_duration_element
 duration-reads name d octets e =
@@ -149,17 +146,8 @@ duration-reads name d octets e =
     (q.1, record { contents = q.0; spelling = c.0; short = q.2; text = c.1; exists = c.2; stood = q.3 })
 
 -- Every such element is read.
-pub duration-reads_all : (name : Name) (d : Duration) (octets rest : List ℕ) → ReadableDuration name d octets rest → read_duration_element name octets ≡ some d
+pub duration-reads_all : (name : Name) (d : Duration) (octets rest : List ℕ) → ReadableDuration name d octets rest → read_duration_element name octets ≡ Some d
 unfolding read_duration_element
 duration-reads_all name d octets rest r =
     tag_all (read_duration_contents name) d name octets r.contents rest r.short r.stood
     (contents_all name d r.contents r.spelling r.text r.exists)
-
--- What is written into a buffer, to be compared with, is the duration's element.
-pub own_duration : (name : Name) (d : Duration) (text room own : List ℕ) (r : Outcome) → exists_duration d ≡ true → text ≡ duration_text d → 75 ≤ length room
-    → r ≡ outcome_of (done (element name (contents_of name text)) no_bits) room → own ≡ room_of (done (element name (contents_of name text)) no_bits) room
-    → (r.length.count ≤ 75) × (take r.length.count own ≡ element name (contents_of name (duration_text d)))
-own_duration name d text room own r x q h o m =
-    let l : length (element name (contents_of name (duration_text d))) ≤ 75 = element_most name d x in
-    let w = own_written name text room own r (rw q (omega arith)) o m in
-    (rw (w.0, q) l, w.1 ∙ rw q)

@@ -1,4 +1,5 @@
 -- A value is read exactly where an element of it stands in front, in some spelling and whatever follows.
+use Rattle.std.specs.Prelude.{Option, Some, None}
 use mathlib.Core.Path.{◌≡◌, refl, ap, sym, ◌∙◌}
 use mathlib.Core.Bool.{Bool, true, false, ◌&&◌, cond}
 use mathlib.Core.List.{List, [], ◌∷◌, ◌++◌, append_assoc}
@@ -11,12 +12,10 @@ use borrow.Author.Tests.{le-leb, leb-true}
 use Rattle.octets.specs.Octets.{eq_list}
 use Rattle.octets.proofs.Laws.Cases.{both}
 use Rattle.octets.proofs.Laws.Octets.{equal, equal_test}
-use mathlib.Core.Option.{Option, some, none}
 use Rattle.texts.specs.Octets.{colon, hyphen, is_digit, letter_t}
 use Rattle.texts.specs.Texts.{read_of, render}
 use Rattle.texts.specs.Years.{longest_year}
 use Rattle.texts.specs.declared.forms.Form.{Form}
-use Rattle.texts.specs.declared.texts.TextRead.{TextRead}
 use Rattle.texts.specs.declared.values.Spelling.{Spelling}
 use Rattle.texts.specs.declared.values.Value.{Value}
 use Rattle.texts.proofs.Laws.Digits.{is_digit_back}
@@ -29,7 +28,7 @@ use Rattle.der_elements.specs.Readings.{all_digits, dated, digits_only, read_con
 use Rattle.der_elements.proofs.Laws.Contents.{digit_kept, without_none}
 
 -- A test that lets something through held.
-let_through : {A : Type 0} (b : Bool) (o : Option A) (a : A) → cond b o none ≡ some a → (b ≡ true) × (o ≡ some a)
+let_through : {A : Type 0} (b : Bool) (o : Option A) (a : A) → cond b o None ≡ Some a → (b ≡ true) × (o ≡ Some a)
 let_through true o a e = (refl, e)
 let_through false o a e = absurd (let z : ◌≡◌ {A = ℕ} 0 1 = cc in omega arith)
 
@@ -92,8 +91,8 @@ stands_for Name.DateTime l text e =
 -- ---- tag and length
 
 module _ {A : Type 0} (contents : List ℕ → Option A) (a : A) where
-  length_only : (l : List ℕ) → within_length contents l ≡ some a
-      → (c : List ℕ) × (rest : List ℕ) × (length c ≤ 127) × (l ≡ length c ∷ (c ++ rest)) × (contents c ≡ some a)
+  length_only : (l : List ℕ) → within_length contents l ≡ Some a
+      → (c : List ℕ) × (rest : List ℕ) × (length c ≤ 127) × (l ≡ length c ∷ (c ++ rest)) × (contents c ≡ Some a)
   length_only [] e = absurd (let z : ◌≡◌ {A = ℕ} 0 1 = cc in omega arith)
   length_only (n ∷ l) e =
       let p = let_through (leb n 127 && leb n (length l)) _ a e in
@@ -106,14 +105,14 @@ module _ {A : Type 0} (contents : List ℕ → Option A) (a : A) where
         p.1,
       )
 
-  length_all : (c rest : List ℕ) → length c ≤ 127 → contents c ≡ some a → within_length contents (length c ∷ (c ++ rest)) ≡ some a
+  length_all : (c rest : List ℕ) → length c ≤ 127 → contents c ≡ Some a → within_length contents (length c ∷ (c ++ rest)) ≡ Some a
   length_all c rest h e =
       let l = length-append c rest in
       rw (le-leb (length c) 127 h, le-leb (length c) (length (c ++ rest)) (omega arith), take-append_seam c rest) e
 
   -- What is read is in an element, and something after it.
-  pub tag_only : (name : Name) (octets : List ℕ) → under_tag name contents octets ≡ some a
-      → (c : List ℕ) × (rest : List ℕ) × (length c ≤ 127) × (octets ≡ element name c ++ rest) × (contents c ≡ some a)
+  pub tag_only : (name : Name) (octets : List ℕ) → under_tag name contents octets ≡ Some a
+      → (c : List ℕ) × (rest : List ℕ) × (length c ≤ 127) × (octets ≡ element name c ++ rest) × (contents c ≡ Some a)
   unfolding element
   tag_only name octets e =
       let p = let_through (eq_list (take (length (tag_of name)) octets) (tag_of name)) _ a e in
@@ -129,8 +128,8 @@ module _ {A : Type 0} (contents : List ℕ → Option A) (a : A) where
       )
 
   -- What is in an element is read, whatever is after it.
-  pub tag_all : (name : Name) (octets c rest : List ℕ) → length c ≤ 127 → octets ≡ element name c ++ rest → contents c ≡ some a
-      → under_tag name contents octets ≡ some a
+  pub tag_all : (name : Name) (octets c rest : List ℕ) → length c ≤ 127 → octets ≡ element name c ++ rest → contents c ≡ Some a
+      → under_tag name contents octets ≡ Some a
   unfolding element
   tag_all name octets c rest h s e =
       let t : octets ≡ tag_of name ++ length c ∷ (c ++ rest) = s ∙ append_assoc (tag_of name) (length c ∷ c) rest in
@@ -143,30 +142,30 @@ module _ {A : Type 0} (contents : List ℕ → Option A) (a : A) where
 
 module _ (form : Form) (v : Value) where
   -- What a text gives is a text of it, in the spelling that was read.
-  text_only : (text : List ℕ) → of_text (read_of form text) ≡ some v
-      → (s : Spelling) × (render s v ≡ text) × (read_of form (render s v) ≡ TextRead.Value v s)
+  text_only : (text : List ℕ) → of_text (read_of form text) ≡ Some v
+      → (s : Spelling) × (render s v ≡ text) × (read_of form (render s v) ≡ Some (v, s))
   text_only text e = go (read_of form text) refl e
     where
-      go : (r : TextRead) → read_of form text ≡ r → of_text r ≡ some v
-          → (s : Spelling) × (render s v ≡ text) × (read_of form (render s v) ≡ TextRead.Value v s)
-      go (TextRead.Value w s) r e =
+      go : (r : Option (Value × Spelling)) → read_of form text ≡ r → of_text r ≡ Some v
+          → (s : Spelling) × (render s v ≡ text) × (read_of form (render s v) ≡ Some (v, s))
+      go (Some (w, s)) r e =
           let q : w ≡ v = cc in
-          let p : read_of form text ≡ TextRead.Value v s = r ∙ ap (λ (x : Value). TextRead.Value x s) q in
+          let p : read_of form text ≡ Some (v, s) = r ∙ ap (λ (x : Value). Some (x, s)) q in
           let l : text ≡ render s v = (render_read longest_year (omega arith) (omega arith) form text v s p).0 in
           (s, sym l, ap (read_of form) (sym l) ∙ p)
-      go TextRead.NotOfForm r e = absurd (let z : ◌≡◌ {A = ℕ} 0 1 = cc in omega arith)
+      go None r e = absurd (let z : ◌≡◌ {A = ℕ} 0 1 = cc in omega arith)
 
   -- Contents that give the value stand for a text of it, and all such contents give it.
-  contents_only : (name : Name) (l : List ℕ) → read_contents name form l ≡ some v
-      → (s : Spelling) × StandsFor name l (render s v) × (read_of form (render s v) ≡ TextRead.Value v s)
+  contents_only : (name : Name) (l : List ℕ) → read_contents name form l ≡ Some v
+      → (s : Spelling) × StandsFor name l (render s v) × (read_of form (render s v) ≡ Some (v, s))
   contents_only Name.Listed l e = text_only l e
   contents_only Name.Date l e = let p = let_through (digits_only 8 l) _ v e in let t = text_only _ p.1 in (t.0, (p.0, t.1), t.2)
   contents_only Name.TimeOfDay l e = let p = let_through (digits_only 6 l) _ v e in let t = text_only _ p.1 in (t.0, (p.0, t.1), t.2)
   contents_only Name.DateTime l e = let p = let_through (digits_only 14 l) _ v e in let t = text_only _ p.1 in (t.0, (p.0, t.1), t.2)
   contents_only Name.Duration l e = absurd (let z : ◌≡◌ {A = ℕ} 0 1 = cc in omega arith)
 
-  contents_all : (name : Name) (l : List ℕ) (s : Spelling) → StandsFor name l (render s v) → read_of form (render s v) ≡ TextRead.Value v s
-      → read_contents name form l ≡ some v
+  contents_all : (name : Name) (l : List ℕ) (s : Spelling) → StandsFor name l (render s v) → read_of form (render s v) ≡ Some (v, s)
+      → read_contents name form l ≡ Some v
   contents_all Name.Listed l s t f = ap of_text (ap (read_of form) (sym t) ∙ f)
   contents_all Name.Date l s t f = rw t.0 (ap of_text (ap (read_of form) (sym t.1) ∙ f))
   contents_all Name.TimeOfDay l s t f = rw t.0 (ap of_text (ap (read_of form) (sym t.1) ∙ f))
@@ -174,7 +173,7 @@ module _ (form : Form) (v : Value) where
   contents_all Name.Duration l s t f = absurd t
 
   -- What is read is an element of the value, and something after it.
-  pub der-reads : (name : Name) (octets : List ℕ) → read_element name form octets ≡ some v → (rest : List ℕ) × ReadableElement name form v octets rest
+  pub der-reads : (name : Name) (octets : List ℕ) → read_element name form octets ≡ Some v → (rest : List ℕ) × ReadableElement name form v octets rest
   unfolding read_element
   der-reads name octets e =
       let q = tag_only (read_contents name form) v name octets e in
@@ -182,7 +181,7 @@ module _ (form : Form) (v : Value) where
       (q.1, record { contents = q.0; spelling = c.0; short = q.2; text = c.1; formed = c.2; stood = q.3 })
 
   -- Every such element is read.
-  pub der-reads_all : (name : Name) (octets rest : List ℕ) → ReadableElement name form v octets rest → read_element name form octets ≡ some v
+  pub der-reads_all : (name : Name) (octets rest : List ℕ) → ReadableElement name form v octets rest → read_element name form octets ≡ Some v
   unfolding read_element
   der-reads_all name octets rest r =
       tag_all (read_contents name form) v name octets r.contents rest r.short r.stood

@@ -1,42 +1,22 @@
 -- These are steps of the code that reads an element.
+use Rattle.std.specs.Prelude.{Option, Some, None}
 use mathlib.Core.Path.{◌≡◌, refl, ap, sym, ◌∙◌}
-use mathlib.Core.Bool.{Bool, true, false, ◌&&◌, cond, and-false, and-true}
+use mathlib.Core.Bool.{Bool, true, false, ◌&&◌, cond}
 use mathlib.Core.List.{List, [], ◌∷◌, ◌++◌, append-nil}
-use Prim.Native.Nat.{ℕ, ◌+◌, ◌-◌, ◌≤◌, ◌<◌}
-use native.Mathlib.Numerals.{add-one}
+use Prim.Native.Nat.{ℕ, ◌+◌, ◌-◌, ◌≤◌}
 use native.Mathlib.Omega.{arith}
 use lib.Dec.{eqb, leb}
-use lib.ListN.{length, length-append, length-drop, length-set, take, drop, get_or, set, drop_of_length-le}
-use lib.Seq.{drop-cons, drop-drop, length-take-le, take_all, take_at}
-use borrow.Author.Tests.{le-leb, leb-true, lt-leb, eqb-true}
+use lib.ListN.{length, length-append, length-drop, length-set, take, drop, set, drop_of_length-le}
+use lib.Seq.{drop-drop, length-take-le, take_all, take_at}
+use borrow.Author.Tests.{leb-true, eqb-true}
 use Rattle.octets.specs.Octets.{eq_list}
 use Rattle.octets.specs.Stores.{StoredText, place_after, room_after}
 use Rattle.octets.proofs.Laws.Cases.{both}
-use Rattle.octets.proofs.Laws.Octets.{unequal_length}
 use Rattle.octets.proofs.Laws.Stores.{put_octet, put_then, put_there, sets-front}
-use mathlib.Core.Option.{Option, none}
 use Rattle.texts.specs.Octets.{colon, hyphen, letter_t}
 use Rattle.types.specs.declared.types.Name.{Name}
 use Rattle.der_elements.specs.Elements.{tag_of}
-use Rattle.der_elements.specs.Readings.{all_digits, contents_end, dated, digits_only, separated, timed, within_length}
-
--- A digit leaves the rest to decide, and any other octet decides.
-module _ (l : List ℕ) (i : ℕ) (h : i < length l) where
-  pub digit_here : 48 ≤ get_or l i 0 → get_or l i 0 ≤ 57 → all_digits (drop i l) ≡ all_digits (drop (i + 1) l)
-  unfolding all_digits
-  digit_here a b = rw (add-one, drop-cons l i 0 h, le-leb 48 (get_or l i 0) a, le-leb (get_or l i 0) 57 b)
-
-  pub below-digits : get_or l i 0 < 48 → all_digits (drop i l) ≡ false
-  unfolding all_digits
-  below-digits a = rw (drop-cons l i 0 h, lt-leb 48 (get_or l i 0) a)
-
-  pub above_digits : 48 ≤ get_or l i 0 → 57 < get_or l i 0 → all_digits (drop i l) ≡ false
-  unfolding all_digits
-  above_digits a b = rw (drop-cons l i 0 h, le-leb 48 (get_or l i 0) a, lt-leb (get_or l i 0) 57 b)
-
-pub digits-end : (l : List ℕ) (i : ℕ) → length l ≤ i → all_digits (drop i l) ≡ true
-unfolding all_digits
-digits-end l i h = rw (drop_of_length-le l h)
+use Rattle.der_elements.specs.Readings.{all_digits, dated, digits_only, separated, timed, under_tag, within_length}
 
 -- So many digits are so many octets.
 pub digits-count : (n : ℕ) (l : List ℕ) → digits_only n l ≡ true → length l ≡ n
@@ -140,84 +120,49 @@ module _ (d : List ℕ) (e : length d ≡ 14) where
 
 -- ---- the length
 
--- Where a length tells of contents, they lie in the octets, and what is read is what they give; else nothing is.
+-- Where a length tells of contents, what is read is what they give; else nothing is. So it is under a tag.
 module _ {A : Type 0} (contents : List ℕ → Option A) where
-  pub contents_none : (l : List ℕ) → contents_end l ≡ 0 → within_length contents l ≡ none
+  contents_none : (l : List ℕ) → within_length Some l ≡ None → within_length contents l ≡ None
   contents_none [] e = refl
   contents_none (n ∷ l) e = go (leb n 127 && leb n (length l)) e
     where
-      go : (b : Bool) → cond b (n + 1) 0 ≡ 0 → cond b (contents (take n l)) none ≡ none
-      go true e = absurd (omega arith)
+      go : (b : Bool) → cond b (Some (take n l)) None ≡ None → cond b (contents (take n l)) None ≡ None
+      go true e = absurd (let z : ◌≡◌ {A = ℕ} 0 1 = cc in omega arith)
       go false e = refl
 
-  pub contents_there : (l : List ℕ) (end : ℕ) → end ≡ contents_end l → (end ≡ 0 → ⊥) → within_length contents l ≡ contents (take (end - 1) (drop 1 l))
-  contents_there [] end e n = absurd (n e)
-  contents_there (c ∷ l) end e n = go (leb c 127 && leb c (length l)) e
+  contents_there : (l c : List ℕ) → within_length Some l ≡ Some c → within_length contents l ≡ contents c
+  contents_there [] c e = absurd (let z : ◌≡◌ {A = ℕ} 0 1 = cc in omega arith)
+  contents_there (n ∷ l) c e = go (leb n 127 && leb n (length l)) e
     where
-      go : (b : Bool) → end ≡ cond b (c + 1) 0 → cond b (contents (take c l)) none ≡ contents (take (end - 1) l)
-      go true e = let q : end - 1 ≡ c = omega arith in rw q
-      go false e = absurd (n e)
+      go : (b : Bool) → cond b (Some (take n l)) None ≡ Some c → cond b (contents (take n l)) None ≡ contents c
+      go true e = let q : take n l ≡ c = cc in rw q
+      go false e = absurd (let z : ◌≡◌ {A = ℕ} 0 1 = cc in omega arith)
 
-pub contents-within : (l : List ℕ) (end : ℕ) → end ≡ contents_end l → (end ≡ 0 → ⊥) → (1 ≤ end) × (end ≤ length l) × (end ≤ 128)
-contents-within [] end e n = absurd (n e)
-contents-within (c ∷ l) end e n = go (leb c 127 && leb c (length l)) refl e
+  module _ (name : Name) (l : List ℕ) where
+    pub element_none : under_tag name Some l ≡ None → under_tag name contents l ≡ None
+    element_none e = go (eq_list (take (length (tag_of name)) l) (tag_of name)) e
+      where
+        go : (b : Bool) → cond b (within_length Some (drop (length (tag_of name)) l)) None ≡ None
+            → cond b (within_length contents (drop (length (tag_of name)) l)) None ≡ None
+        go true e = contents_none (drop (length (tag_of name)) l) e
+        go false e = refl
+
+    pub element_there : (c : List ℕ) → under_tag name Some l ≡ Some c → under_tag name contents l ≡ contents c
+    element_there c e = go (eq_list (take (length (tag_of name)) l) (tag_of name)) e
+      where
+        go : (b : Bool) → cond b (within_length Some (drop (length (tag_of name)) l)) None ≡ Some c
+            → cond b (within_length contents (drop (length (tag_of name)) l)) None ≡ contents c
+        go true e = contents_there (drop (length (tag_of name)) l) c e
+        go false e = absurd (let z : ◌≡◌ {A = ℕ} 0 1 = cc in omega arith)
+
+-- The contents are no longer than a length can tell.
+pub contents-within : (l c : List ℕ) → within_length Some l ≡ Some c → length c ≤ 127
+contents-within [] c e = absurd (let z : ◌≡◌ {A = ℕ} 0 1 = cc in omega arith)
+contents-within (n ∷ l) c e = go (leb n 127 && leb n (length l)) refl e
   where
-    go : (b : Bool) → (leb c 127 && leb c (length l)) ≡ b → end ≡ cond b (c + 1) 0 → (1 ≤ end) × (end ≤ length (c ∷ l)) × (end ≤ 128)
-    go false t e = absurd (n e)
+    go : (b : Bool) → (leb n 127 && leb n (length l)) ≡ b → cond b (Some (take n l)) None ≡ Some c → length c ≤ 127
+    go false t e = absurd (let z : ◌≡◌ {A = ℕ} 0 1 = cc in omega arith)
     go true t e =
-        let p = both (leb c 127) (leb c (length l)) t in
-        let h = leb-true c 127 p.0 in
-        let k = leb-true c (length l) p.1 in
-        (omega arith, omega arith, omega arith)
-
--- The place after the contents, as the code finds it.
-pub end_missing : (l : List ℕ) → length l ≡ 0 → 0 ≡ contents_end l
-end_missing [] h = refl
-end_missing (c ∷ l) h = absurd (omega arith)
-
-pub end_above : (l : List ℕ) → 127 < get_or l 0 0 → 0 ≡ contents_end l
-end_above [] h = refl
-end_above (c ∷ l) h = rw (lt-leb c 127 h)
-
-pub end_beyond : (l : List ℕ) → length l < get_or l 0 0 + 1 → 0 ≡ contents_end l
-end_beyond [] h = refl
-end_beyond (c ∷ l) h = rw (lt-leb c (length l) (omega arith), and-false)
-
-pub end_there : (l : List ℕ) → get_or l 0 0 ≤ 127 → get_or l 0 0 + 1 ≤ length l → get_or l 0 0 + 1 ≡ contents_end l
-end_there [] h k = absurd (omega arith)
-end_there (c ∷ l) h k = rw (le-leb c 127 h, le-leb c (length l) (omega arith))
-
--- ---- the tag
-
--- A tag is the first n of two octets: one, or both.
-module _ (name : Name) (o : List ℕ) {n : ℕ} (w : length o ≡ 2) (e : take n o ≡ tag_of name) where
-  pub short_tag : n ≡ 1 → tag_of name ≡ get_or o 0 0 ∷ []
-  short_tag h = sym e ∙ rw h (go o w)
-    where
-      go : (l : List ℕ) → length l ≡ 2 → take 1 l ≡ get_or l 0 0 ∷ []
-      go [] q = absurd (omega arith)
-      go (a ∷ l) q = refl
-
-  pub long_tag : n ≡ 2 → tag_of name ≡ get_or o 0 0 ∷ get_or o 1 0 ∷ []
-  long_tag h = sym e ∙ rw h (go o w)
-    where
-      go : (l : List ℕ) → length l ≡ 2 → take 2 l ≡ get_or l 0 0 ∷ get_or l 1 0 ∷ []
-      go [] q = absurd (omega arith)
-      go (a ∷ []) q = absurd (omega arith)
-      go (a ∷ b ∷ l) q = refl
-
--- Whether enough octets begin with one octet, or with two.
-pub begins_one : (l : List ℕ) (a : ℕ) → 1 ≤ length l → eq_list (take 1 l) (a ∷ []) ≡ eqb (get_or l 0 0) a
-unfolding eq_list
-begins_one [] a h = absurd (omega arith)
-begins_one (c ∷ l) a h = rw and-true
-
-pub begins_two : (l : List ℕ) (a b : ℕ) → 2 ≤ length l → eq_list (take 2 l) (a ∷ b ∷ []) ≡ (eqb (get_or l 0 0) a && eqb (get_or l 1 0) b)
-unfolding eq_list
-begins_two [] a b h = absurd (omega arith)
-begins_two (c ∷ []) a b h = absurd (omega arith)
-begins_two (c ∷ d ∷ l) a b h = rw and-true
-
--- Too few octets begin with nothing longer.
-pub begins_short : (octets front : List ℕ) → length octets < length front → eq_list (take (length front) octets) front ≡ false
-begins_short octets front h = rw (take_all (length front) octets (omega arith)) (unequal_length octets front (λ e. omega arith))
+        let p = both (leb n 127) (leb n (length l)) t in
+        let q : take n l ≡ c = cc in
+        rw (← q, length-take-le n l (leb-true n (length l) p.1)) (leb-true n 127 p.0)

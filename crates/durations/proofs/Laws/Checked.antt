@@ -1,9 +1,9 @@
 -- Checked durations: texts with their canonical texts, their octets in PER and the bit counts, and back; texts that are refused; and octets with the
 -- number that they meet. Only a table refuses a range or an order that writer and reader share.
+use Rattle.std.specs.Prelude.{Option, Some, None}
 use mathlib.Core.Path.{◌≡◌, refl}
 use mathlib.Core.Bool.{◌&&◌, Bool, true, false, cond}
 use mathlib.Core.List.{◌∷◌, List, []}
-use mathlib.Core.Option.{Option, some, none}
 use Prim.Native.Nat.{ℕ}
 use Prim.Native.String.{String}
 use lib.Dec.{eqb}
@@ -104,8 +104,8 @@ read text (found d rest) = eq_list (duration_text d) (bytes text)
 read text nothing = false
 
 given : Row → Option Duration → Bool
-given (value text own octets bits) none = false
-given (value text own octets bits) (some d) =
+given (value text own octets bits) None = false
+given (value text own octets bits) (Some d) =
     exists_duration d
     && eq_list (duration_text d) (bytes own)
     && eq_list (octets_of (layout (duration_fields d))) (hex octets)
@@ -190,8 +190,8 @@ texts =
     []
 
 is_none : Option Duration → Bool
-is_none none = true
-is_none (some d) = false
+is_none None = true
+is_none (Some d) = false
 
 none_read : List NoText → Bool
 none_read [] = true

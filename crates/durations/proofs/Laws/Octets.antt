@@ -1,8 +1,8 @@
 -- Durations in octets: what was laid out is read, and what is read exists.
+use Rattle.std.specs.Prelude.{Some}
 use mathlib.Core.Path.{◌≡◌, refl}
 use mathlib.Core.Bool.{Bool, true}
 use mathlib.Core.List.{List, [], append-nil}
-use mathlib.Core.Option.{some}
 use Prim.Native.Nat.{ℕ}
 use native.Mathlib.Omega.{arith}
 use Rattle.octets.specs.Found.{Found, found, nothing, of_found}
@@ -20,18 +20,18 @@ use Rattle.durations.proofs.Laws.Fields.{over-duration}
 use Rattle.durations.proofs.Laws.Found.{read_exists}
 
 -- The octets of a duration give it.
-pub octets_back : (d : Duration) → exists_duration d ≡ true → duration_in_octets (octets_of (layout (duration_fields d))) ≡ some d
+pub octets_back : (d : Duration) → exists_duration d ≡ true → duration_in_octets (octets_of (layout (duration_fields d))) ≡ Some d
 unfolding duration_in_octets
 octets_back d e =
     let o : over read_fields (duration_fields d) ≡ found d [] = simp append-nil at (over-duration d [] e) in
     rw (unpacked_octets (layout (duration_fields d)), run-layout read_fields (duration_fields d) _ d o)
 
 -- What octets give exists: of durations there is no refusal 4.
-pub octets_exist : (octets : List ℕ) (d : Duration) → duration_in_octets octets ≡ some d → exists_duration d ≡ true
+pub octets_exist : (octets : List ℕ) (d : Duration) → duration_in_octets octets ≡ Some d → exists_duration d ≡ true
 unfolding duration_in_octets
 octets_exist octets d = go (run read_fields (unpacked octets)) refl
   where
-    go : (g : Found Bool Duration) → run read_fields (unpacked octets) ≡ g → of_found g ≡ some d → exists_duration d ≡ true
+    go : (g : Found Bool Duration) → run read_fields (unpacked octets) ≡ g → of_found g ≡ Some d → exists_duration d ≡ true
     go (found c rest) r e =
         let q : c ≡ d = cc in
         let w = run_only read_fields (unpacked octets) c rest r in

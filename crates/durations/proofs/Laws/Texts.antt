@@ -1,4 +1,5 @@
 -- A duration's text and its reader.
+use Rattle.std.specs.Prelude.{Some}
 use mathlib.Core.Path.{◌≡◌, refl, ap, ◌∙◌}
 use mathlib.Core.Bool.{Bool, true, false, ◌&&◌, ◌||◌, not, cond}
 use mathlib.Core.List.{List, [], ◌∷◌, ◌++◌, append_assoc, append-nil}
@@ -13,7 +14,6 @@ use Rattle.octets.specs.Found.{found}
 use Rattle.texts.specs.Times.{fraction, put_fraction, get_fraction}
 use Rattle.texts.proofs.Laws.Digits.{leading_put, leading_none}
 use Rattle.texts.proofs.Laws.Times.{fraction_there}
-use mathlib.Core.Option.{some}
 use Rattle.durations.specs.declared.Duration.{Duration}
 use Rattle.texts.specs.declared.parts.Fraction.{Fraction}
 use Rattle.durations.specs.Parts.{Part, absent, present, digits_in, any_present}
@@ -233,7 +233,7 @@ comma-shown true c = refl
 comma-shown false c = refl
 
 -- Any text of a duration is read as it: with a comma or a full stop, with zero components or without.
-pub read-duration : (s : DurationSpelling) (d : Duration) → exists_duration d ≡ true → read_duration (render_duration s d) ≡ some d
+pub read-duration : (s : DurationSpelling) (d : Duration) → exists_duration d ≡ true → read_duration (render_duration s d) ≡ Some d
 unfolding read_duration render_duration
 read-duration s d e =
     let x = exists_parts d e in
@@ -250,6 +250,6 @@ read-duration s d e =
 -- Two durations with one canonical text are equal.
 pub one-duration : (c d : Duration) → exists_duration c ≡ true → exists_duration d ≡ true → duration_text c ≡ duration_text d → c ≡ d
 one-duration c d h k e =
-    let p : read_duration (duration_text c) ≡ some c = read-duration canonical c h in
-    let q : read_duration (duration_text d) ≡ some d = read-duration canonical d k in
+    let p : read_duration (duration_text c) ≡ Some c = read-duration canonical c h in
+    let q : read_duration (duration_text d) ≡ Some d = read-duration canonical d k in
     cc

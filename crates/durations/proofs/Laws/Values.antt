@@ -1,4 +1,5 @@
 -- Components that are well made give a duration that exists, and are a spelling of it.
+use Rattle.std.specs.Prelude.{Option, Some, None}
 use mathlib.Core.Path.{◌≡◌, refl, ap, sym, ◌∙◌, subst}
 use mathlib.Core.Bool.{Bool, true, false, ◌&&◌, ◌||◌, not, cond, and-false, false≢true}
 use mathlib.Core.List.{List, [], ◌∷◌, map}
@@ -11,7 +12,6 @@ use Rattle.octets.proofs.Laws.Cases.{both, by_test}
 use Rattle.texts.specs.Times.{fraction}
 use Rattle.texts.specs.declared.parts.Fraction.{Fraction}
 use Rattle.octets.specs.Found.{Found, found, nothing}
-use mathlib.Core.Option.{Option, some, none}
 use Rattle.durations.specs.declared.Duration.{Duration}
 use Rattle.durations.specs.Parts.{Part, absent, present, no_fraction, is_present, number_in, digits_in, fraction_in, count, any_present, last_in}
 use Rattle.durations.specs.Parts.{of_last, numbers, part_at, well_made}
@@ -302,11 +302,11 @@ as_rendered : (s : DurationSpelling) (ps : List Part) → spelled_parts s.comma 
 unfolding render_duration
 as_rendered s ps e = ap put_all (sym e)
 
-pub read_only : (l : List ℕ) (d : Duration) → read_duration l ≡ some d → ReadAs l d
+pub read_only : (l : List ℕ) (d : Duration) → read_duration l ≡ Some d → ReadAs l d
 unfolding read_duration
 read_only l d = go (get_duration l) refl
   where
-    made : (ps : List Part) → get_duration l ≡ found ps [] → (b : Bool) → well_made ps ≡ b → cond b (some (duration_of ps)) none ≡ some d → ReadAs l d
+    made : (ps : List Part) → get_duration l ≡ found ps [] → (b : Bool) → well_made ps ≡ b → cond b (Some (duration_of ps)) None ≡ Some d → ReadAs l d
     made ps g false b e = absurd (let z : ◌≡◌ {A = ℕ} 0 1 = cc in omega arith)
     made ps g true b e =
         let x = duration-from l ps g in
@@ -318,25 +318,25 @@ read_only l d = go (get_duration l) refl
           is = x.is ∙ as_rendered s.0 ps s.1;
         })
 
-    go : (r : Found ℕ (List Part)) → get_duration l ≡ r → whole_duration r ≡ some d → ReadAs l d
+    go : (r : Found ℕ (List Part)) → get_duration l ≡ r → whole_duration r ≡ Some d → ReadAs l d
     go nothing g e = absurd (let z : ◌≡◌ {A = ℕ} 0 1 = cc in omega arith)
     go (found ps (x ∷ r)) g e = absurd (let z : ◌≡◌ {A = ℕ} 0 1 = cc in omega arith)
     go (found ps []) g e = made ps g (well_made ps) refl e
 
 -- Making canonical gives the canonical text of what is read, and nothing where nothing is.
-pub canonical-made : (l : List ℕ) (d : Duration) → read_duration l ≡ some d → made_canonical l ≡ some (duration_text d)
+pub canonical-made : (l : List ℕ) (d : Duration) → read_duration l ≡ Some d → made_canonical l ≡ Some (duration_text d)
 canonical-made l d e = rw e
 
-pub canonical-nothing : (l : List ℕ) → read_duration l ≡ none → made_canonical l ≡ none
+pub canonical-nothing : (l : List ℕ) → read_duration l ≡ None → made_canonical l ≡ None
 canonical-nothing l e = rw e
 
 -- "making canonical twice changes nothing more"
-pub canonical_again : (l c : List ℕ) → made_canonical l ≡ some c → made_canonical c ≡ some c
+pub canonical_again : (l c : List ℕ) → made_canonical l ≡ Some c → made_canonical c ≡ Some c
 canonical_again l c = go (read_duration l) refl
   where
-    go : (o : Option Duration) → read_duration l ≡ o → canonical_of o ≡ some c → made_canonical c ≡ some c
-    go none g e = absurd (let z : ◌≡◌ {A = ℕ} 0 1 = cc in omega arith)
-    go (some d) g e =
+    go : (o : Option Duration) → read_duration l ≡ o → canonical_of o ≡ Some c → made_canonical c ≡ Some c
+    go None g e = absurd (let z : ◌≡◌ {A = ℕ} 0 1 = cc in omega arith)
+    go (Some d) g e =
         let q : duration_text d ≡ c = cc in
-        let r : read_duration (duration_text d) ≡ some d = read-duration canonical d (read_only l d g).exists in
-        subst (λ (x : List ℕ). made_canonical x ≡ some x) q (rw r)
+        let r : read_duration (duration_text d) ≡ Some d = read-duration canonical d (read_only l d g).exists in
+        subst (λ (x : List ℕ). made_canonical x ≡ Some x) q (rw r)

@@ -1,8 +1,8 @@
 -- "Each is given exactly then. When several hold, the lowest number is given.": of every kind of value, in both directions.
+use Rattle.std.specs.Prelude.{Option, Some, None}
 use mathlib.Core.Path.{◌≡◌, refl, ap, sym, ◌∙◌}
 use mathlib.Core.Bool.{Bool, true, false, cond, false≢true}
 use mathlib.Core.List.{List}
-use mathlib.Core.Option.{Option, some, none}
 use Prim.Native.Nat.{ℕ, zero as naught, suc, ◌≤◌, ◌<◌}
 use native.Mathlib.Omega.{arith}
 use lib.Dec.{leb}
@@ -75,11 +75,11 @@ module _ {F R A : Type 0} (K : Kind AnyType F R A) where
   own_as encodes t text v = true
   own_as decodes t octets v = eq_list octets (K.encoding (K.row t) v)
 
-  none_answer : (d : Direction) (t : AnyType) (input : List ℕ) → K.well_formed t ≡ true → read_as K d t input ≡ none → coded d t input ≡ refused Refusal.Form
+  none_answer : (d : Direction) (t : AnyType) (input : List ℕ) → K.well_formed t ≡ true → read_as K d t input ≡ None → coded d t input ≡ refused Refusal.Form
   none_answer encodes t input w r = Coding.encoded_none K t input w r
   none_answer decodes t input w r = Coding.decoded_none K t input w r
 
-  some_answer : (d : Direction) (t : AnyType) (input : List ℕ) (v : A) → K.well_formed t ≡ true → read_as K d t input ≡ some v
+  some_answer : (d : Direction) (t : AnyType) (input : List ℕ) (v : A) → K.well_formed t ≡ true → read_as K d t input ≡ Some v
       → coded d t input ≡ answered (K.exists v) (K.in_type t v) (own_as d t input v) (result_as K d t v) (K.count (K.row t) v)
   some_answer encodes t input v w r = Coding.encoded_some K t input w v r
   some_answer decodes t input v w r = Coding.decoded_some K t input w v r
@@ -119,7 +119,7 @@ module _ {F R A : Type 0} (K : Kind AnyType F R A) (d : Direction) (settings : L
   unfolding outcome_of
   of_refusal why a = ap (λ (y : Answer). (outcome_of y room).number) (x ∙ a)
 
-  of_none : (t : AnyType) → type_of limits settings ≡ TypeRead.«Type» t → read_as K d t input ≡ none → number ≡ 3
+  of_none : (t : AnyType) → type_of limits settings ≡ TypeRead.«Type» t → read_as K d t input ≡ None → number ≡ 3
   of_none t q r = of_refusal Refusal.Form (rw q (none_answer K d t input (f t q) r))
 
   of_value : (t : AnyType) (v : A) → Gives K d settings limits input t v → number ≡ numbered (K.exists v) (K.in_type t v) (own_as K d t input v) (enough t v)
@@ -152,8 +152,8 @@ module _ {F R A : Type 0} (K : Kind AnyType F R A) (d : Direction) (settings : L
       real t v g false b = four t v g b
 
       reads : (t : AnyType) → type_of limits settings ≡ TypeRead.«Type» t → (o : Option A) → read_as K d t input ≡ o → Why number
-      reads t q none r = rw (of_none t q r) (three t q r)
-      reads t q (some v) r =
+      reads t q None r = rw (of_none t q r) (three t q r)
+      reads t q (Some v) r =
           let g : Gives K d settings limits input t v = record { type_is = q; value-is = r } in
           rw (of_value t v g) (real t v g (K.exists v) refl)
 

@@ -1,9 +1,12 @@
 -- Texts under types as checked values: a type's text, without limits or with them, a text, the number that it gives, and after 0 the canonical
 -- text.
+use Rattle.std.specs.Prelude.{Option, Some, None, Result, Ok, Err}
+use Rattle.calendar.specs.declared.years.Year.{Year}
+use Rattle.answers.specs.declared.refusals.Refusal.{Refusal}
+use Rattle.texts.specs.declared.values.Value.{Value}
 use mathlib.Core.Path.{◌≡◌, refl}
 use mathlib.Core.Bool.{◌&&◌, Bool, true}
 use mathlib.Core.List.{◌∷◌, List, []}
-use mathlib.Core.Option.{Option, some, none}
 use Prim.Native.Nat.{ℕ}
 use Prim.Native.String.{String}
 use lib.Dec.{eqb}
@@ -26,13 +29,12 @@ use Rattle.types.specs.Types.{no_limits, placed, type_number}
 use Rattle.types.specs.declared.types.AnyType.{AnyType}
 use Rattle.types.specs.declared.types.Limits.{Limits}
 use Rattle.types.specs.declared.types.TypeRead.{TypeRead}
-use Rattle.types.specs.declared.types.Window.{Window}
 use Rattle.texts.specs.Dates.{get_after, get_date, get_week, put_after, put_date}
 use Rattle.texts.specs.Digits.{get_digits, get_field, leading, put_digits}
 use Rattle.texts.specs.Texts.{get_value, read_up_to, render, text_of}
 use Rattle.texts.specs.Times.{get_after_hours, get_clock, get_difference, get_fraction, get_minutes, get_time, get_zone, put_clock, put_fraction, put_time, put_zone}
 use Rattle.texts.specs.Years.{get_signed, get_year, signed_fits, size_in, year_digits, year_text}
-use Rattle.durations.specs.Answers.{duration_in, duration_number}
+use Rattle.durations.specs.Answers.{duration_number}
 use Rattle.durations.specs.Durations.{duration_of, shown, spellable}
 use Rattle.durations.specs.Parts.{any_present, count, last_in, numbers, of_last, part_at, well_made}
 use Rattle.durations.specs.Texts.{fraction_length, get_duration, get_end, get_number, get_part, get_parts, get_present, get_times, made_canonical, needless}
@@ -42,7 +44,6 @@ use Rattle.held_values.specs.Existence.{exists_clock, exists_difference, exists_
 use Rattle.held_values.specs.Forms.{same_date_form, same_time_form}
 use Rattle.held_values.specs.Holding.{admits_date, admits_time, holds_of, in_type}
 use Rattle.types.specs.Years.{between, in_long, in_years, some_year, year_setting_at}
-use Rattle.held_values.specs.declared.admission.Admission.{Admission}
 
 data Row : Type 0 where
   row : String → String → ℕ → String → Row
@@ -153,10 +154,10 @@ rows =
 
 -- from -0044 to -0001, and from 1500 to 1600
 early : Limits
-early = record { window = Window.Within (year_at (negsuc 43)) (year_at (negsuc 0)); hour24 = true }
+early = record { window = Some ((year_at (negsuc 43)), (year_at (negsuc 0))); hour24 = true }
 
 from1500 : Limits
-from1500 = record { window = Window.Within (year_at (pos 1500)) (year_at (pos 1600)); hour24 = true }
+from1500 = record { window = Some ((year_at (pos 1500)), (year_at (pos 1600))); hour24 = true }
 
 limited : List Row
 limited =
@@ -209,18 +210,18 @@ limited =
 
 number_in : TypeRead → List ℕ → ℕ
 number_in (TypeRead.«Type» (AnyType.Point t)) l = admission_number (admitted t l)
-number_in (TypeRead.«Type» AnyType.Duration) l = duration_number (duration_in (read_duration l))
-number_in (TypeRead.«Type» AnyType.ListedDuration) l = duration_number (duration_in (read_duration l))
+number_in (TypeRead.«Type» AnyType.Duration) l = duration_number (read_duration l)
+number_in (TypeRead.«Type» AnyType.ListedDuration) l = duration_number (read_duration l)
 number_in TypeRead.Unreadable l = type_number TypeRead.Unreadable
 number_in TypeRead.NoRow l = type_number TypeRead.NoRow
 
-text_after : Admission → List ℕ
-text_after (Admission.Value v) = text_of v
-text_after (Admission.Refused why) = []
+text_after : Result Value Refusal → List ℕ
+text_after (Ok v) = text_of v
+text_after (Err why) = []
 
 text_read : Option (List ℕ) → List ℕ
-text_read (some l) = l
-text_read none = []
+text_read (Some l) = l
+text_read None = []
 
 text_in : TypeRead → List ℕ → List ℕ
 text_in (TypeRead.«Type» (AnyType.Point t)) l = text_after (admitted t l)

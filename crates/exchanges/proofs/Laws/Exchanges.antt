@@ -1,8 +1,8 @@
 -- Any lawful kind with its texts meets demands 2 and 3.
+use Rattle.std.specs.Prelude.{Some, None}
 use mathlib.Core.Path.{◌≡◌, ap, sym, ◌∙◌}
 use mathlib.Core.Bool.{Bool, true, false, cond}
 use mathlib.Core.List.{List}
-use mathlib.Core.Option.{some, none}
 use Prim.Native.Nat.{ℕ, ◌≤◌, ◌<◌}
 use native.Mathlib.Omega.{arith}
 use lib.ListN.{length}
@@ -121,22 +121,22 @@ module _ {T F R A : Type 0} (K : Kind T F R A) (L : Lawful K) {S : Type 0} (rend
     }
 
   -- A text that is of the form of a reader's type is of the writer's form.
-  alike : (w r : T) (v a : A) → Holds K w v → K.read_text (K.form r) (K.text_of v) ≡ some a → K.form w ≡ K.form r
+  alike : (w r : T) (v a : A) → Holds K w v → K.read_text (K.form r) (K.text_of v) ≡ Some a → K.form w ≡ K.form r
   alike w r v a h e = N.one_form w v h (K.form r) a e
 
   -- Rows alike, and octets give nothing at the form of a reader's type where the text is not of it.
   module _ (w r : T) (fw : K.well_formed w ≡ true) (fr : K.well_formed r ≡ true) (same : K.row w ≡ K.row r) (v : A) (hw : holds K w v ≡ true)
-      (other : K.read_text (K.form r) (K.text_of v) ≡ none → K.read_octets (K.row r) (K.form r) (K.encoding (K.row w) v) ≡ none)
+      (other : K.read_text (K.form r) (K.text_of v) ≡ None → K.read_octets (K.row r) (K.form r) (K.encoding (K.row w) v) ≡ None)
       (sender : Answer) (lent : List ℕ) (x : sender ≡ done (K.encoding (K.row w) v) (K.count (K.row w) v)) (ok : (outcome_of sender lent).number ≡ 0)
       (read : List ℕ → Answer) (y : (l : List ℕ) → read l ≡ decoded K r l) where
     as_written : (sent sender lent ≡ K.encoding (K.row w) v) × (K.count (K.row w) v ≡ (outcome_of sender lent).bits)
     as_written = rw x (let q = sent_is (K.encoding (K.row w) v) lent (K.count (K.row w) v) (rw x at ok) in (sym q.0, q.1))
 
-    own : holds K r v ≡ true → K.read_text (K.form r) (K.text_of v) ≡ some v
+    own : holds K r v ≡ true → K.read_text (K.form r) (K.text_of v) ≡ Some v
     own h = L.text_own r v (held r v fr h)
 
     -- where the form is the writer's, the reader's type decides
-    decides : (a : A) → K.read_text (K.form r) (K.text_of v) ≡ some a → (b : Bool) → K.in_type r v ≡ b
+    decides : (a : A) → K.read_text (K.form r) (K.text_of v) ≡ Some a → (b : Bool) → K.in_type r v ≡ b
         → read (sent sender lent) ≡ cond b (done (K.text_of v) (outcome_of sender lent).bits) (refused Refusal.Membership)
     decides a e b i =
         let s = as_written in
@@ -149,7 +149,7 @@ module _ {T F R A : Type 0} (K : Kind T F R A) (L : Lawful K) {S : Type 0} (rend
     returned : holds K r v ≡ true → read (sent sender lent) ≡ done (K.text_of v) (outcome_of sender lent).bits
     returned h = decides v (own h) true (both (K.exists v) (K.in_type r v) h).1
 
-    not_read : K.read_text (K.form r) (K.text_of v) ≡ none → read (sent sender lent) ≡ refused Refusal.Form
+    not_read : K.read_text (K.form r) (K.text_of v) ≡ None → read (sent sender lent) ≡ refused Refusal.Form
     not_read e = ap read as_written.0 ∙ y (K.encoding (K.row w) v) ∙ Coding.decoded_none K r (K.encoding (K.row w) v) fr (other e)
 
     pub meets_3 : Demand3 K sender lent read r v

@@ -1,4 +1,5 @@
 -- What holds of dates and times in any encoding.
+use Rattle.std.specs.Prelude.{None, Some, Option, Result, Ok, Err}
 use mathlib.Core.Path.{◌≡◌, refl, ap, sym, ◌∙◌}
 use mathlib.Core.Bool.{Bool, true, false, cond, false≢true}
 use mathlib.Core.List.{List}
@@ -15,7 +16,6 @@ use Rattle.texts.specs.Years.{longest_year}
 use Rattle.texts.proofs.Laws.Forms.{other-form}
 use Rattle.texts.proofs.Laws.Texts.{render_read}
 use Rattle.texts.specs.declared.forms.Form.{Form}
-use Rattle.texts.specs.declared.texts.TextRead.{TextRead}
 use Rattle.texts.specs.declared.values.Spelling.{Spelling}
 use Rattle.texts.specs.declared.values.Value.{Value}
 use Rattle.types.specs.Types.{form_of, well_formed}
@@ -25,11 +25,8 @@ use Rattle.held_values.specs.Admission.{admitted, given_as, judged, judged_read,
 use Rattle.held_values.specs.Existence.{exists_value}
 use Rattle.held_values.specs.Forms.{same_form}
 use Rattle.held_values.specs.Holding.{holds_of, in_type}
-use Rattle.held_values.specs.declared.admission.Admission.{Admission}
-use Rattle.held_values.specs.declared.admission.Judgement.{Judgement}
 use Rattle.held_values.proofs.Laws.Existing.{exists-digits, held_fits, held_read}
 use Rattle.held_values.proofs.Laws.Holding.{form_same, held, holds_both, in-type, same-form}
-use mathlib.Core.Option.{none, some}
 use Rattle.kinds.specs.Coding.{encoded, decoded, judged_text, judged_as}
 use Rattle.kinds.specs.Kinds.{Encoding, holds}
 use Rattle.kinds.specs.Lawful.{Holds, Notation}
@@ -37,40 +34,40 @@ use Rattle.kinds.proofs.Laws.Coding as Coding
 use Rattle.held_values.specs.Encodings.{of_text, encoded_by}
 
 -- What an admission answers: the encoding of the value, or the refusal.
-abbrev pub admission_answer : {R : Type 0} → Encoding Ty Form R Value → R → Admission → Answer
-admission_answer E row (Admission.Value v) = done (E.encoding row v) (E.count row v)
-admission_answer E row (Admission.Refused why) = refused why
+abbrev pub admission_answer : {R : Type 0} → Encoding Ty Form R Value → R → Result Value Refusal → Answer
+admission_answer E row (Ok v) = done (E.encoding row v) (E.count row v)
+admission_answer E row (Err why) = refused why
 
 -- What is answered where a type holds a value, or the refusal.
-abbrev pub answer_with : Answer → Judgement → Answer
-answer_with answer Judgement.Held = answer
-answer_with answer (Judgement.Refused why) = refused why
+abbrev pub answer_with : Answer → Result (Unit {0}) Refusal → Answer
+answer_with answer (Ok tt) = answer
+answer_with answer (Err why) = refused why
 
 -- The number of what a text gives is 3 where nothing is read.
-pub text-number : (r : TextRead) → of_text r ≡ none → text_number r ≡ 3
-text-number (TextRead.Value v s) e = absurd (let z : ◌≡◌ {A = ℕ} 0 1 = cc in omega arith)
-text-number TextRead.NotOfForm e = refl
+pub text-number : (r : Option (Value × Spelling)) → of_text r ≡ None → text_number r ≡ 3
+text-number (Some (v, s)) e = absurd (let z : ◌≡◌ {A = ℕ} 0 1 = cc in omega arith)
+text-number None e = refl
 
 -- The number of what a text gives is 0 where a value is read.
-pub number_read_lem : (r : TextRead) (v : Value) → of_text r ≡ some v → text_number r ≡ 0
-number_read_lem (TextRead.Value w s) v e = refl
-number_read_lem TextRead.NotOfForm v e = absurd (let z : ◌≡◌ {A = ℕ} 0 1 = cc in omega arith)
+pub number_read_lem : (r : Option (Value × Spelling)) (v : Value) → of_text r ≡ Some v → text_number r ≡ 0
+number_read_lem (Some (w, s)) v e = refl
+number_read_lem None v e = absurd (let z : ◌≡◌ {A = ℕ} 0 1 = cc in omega arith)
 
 -- A text that gives a value is one of the value's texts.
-pub text-of : (f : Form) (l : List ℕ) (v : Value) (r : TextRead) → read_of f l ≡ r → of_text r ≡ some v → (s : Spelling) × (l ≡ render s v)
-text-of f l v (TextRead.Value w s) r q =
+pub text-of : (f : Form) (l : List ℕ) (v : Value) (r : Option (Value × Spelling)) → read_of f l ≡ r → of_text r ≡ Some v → (s : Spelling) × (l ≡ render s v)
+text-of f l v (Some (w, s)) r q =
     let p : w ≡ v = cc in
     (s, (render_read longest_year (omega arith) (omega arith) f l w s r).0 ∙ ap (render s) p)
-text-of f l v TextRead.NotOfForm r q = absurd (let z : ◌≡◌ {A = ℕ} 0 1 = cc in omega arith)
+text-of f l v None r q = absurd (let z : ◌≡◌ {A = ℕ} 0 1 = cc in omega arith)
 
 -- The canonical text of a value that a type holds is of no other form than the type's.
-pub held-form : (t : Ty) (v : Value) → holds_of t v ≡ true → (f : Form) (w : Value) → of_text (read_of f (text_of v)) ≡ some w → form_of t ≡ f
+pub held-form : (t : Ty) (v : Value) → holds_of t v ≡ true → (f : Form) (w : Value) → of_text (read_of f (text_of v)) ≡ Some w → form_of t ≡ f
 held-form t v h f w e = go (same_form (value_form v) f) refl
   where
     go : (b : Bool) → same_form (value_form v) f ≡ b → form_of t ≡ f
     go true b = sym (in-type t v (held t v h).1).0 ∙ same-form (value_form v) f b
     go false b =
-        let n : read_of f (text_of v) ≡ TextRead.NotOfForm =
+        let n : read_of f (text_of v) ≡ None =
         other-form longest_year (omega arith) longest_year (omega arith) (omega arith) (omega arith) canonical v f (held_fits t v h)
         (λ q. false≢true (sym b ∙ form_same (value_form v) f q)) in
         absurd (let o = sym (ap of_text n) ∙ e in let z : ◌≡◌ {A = ℕ} 0 1 = cc in omega arith)
@@ -85,7 +82,7 @@ module _ {R : Type 0} (E : Encoding Ty Form R Value) where
   holds-is t v = refl
 
   -- any text of a value that a type holds is read as it
-  pub text-read : (t : Ty) (v : Value) → Holds (encoded_by E) t v → (s : Spelling) → of_text (read_of (form_of t) (render s v)) ≡ some v
+  pub text-read : (t : Ty) (v : Value) → Holds (encoded_by E) t v → (s : Spelling) → of_text (read_of (form_of t) (render s v)) ≡ Some v
   text-read t v h s = ap of_text (held_read t v (held_by t v h) s)
 
   -- what the decoder returns is a short text
@@ -100,16 +97,16 @@ module _ {R : Type 0} (E : Encoding Ty Form R Value) where
   unfolding encoded judged_text judged_as admitted judged
   encoded-admitted t text = formed (well_formed t) (read_of (form_of t) text)
     where
-      formed : (b : Bool) (r : TextRead) → cond b (judged_text (encoded_by E) t (of_text r)) (refused Refusal.Settings)
-          ≡ admission_answer E (E.row t) (cond b (judged_read t r) (Admission.Refused Refusal.Settings))
+      formed : (b : Bool) (r : Option (Value × Spelling)) → cond b (judged_text (encoded_by E) t (of_text r)) (refused Refusal.Settings)
+          ≡ admission_answer E (E.row t) (cond b (judged_read t r) (Err Refusal.Settings))
       formed false r = refl
-      formed true TextRead.NotOfForm = refl
-      formed true (TextRead.Value v s) = real (exists_value v) (in_type t v)
+      formed true None = refl
+      formed true (Some (v, s)) = real (exists_value v) (in_type t v)
         where
           real : (a b : Bool) → cond a (cond b (done (E.encoding (E.row t) v) (E.count (E.row t) v)) (refused Refusal.Membership))
               (refused Refusal.Existence)
-              ≡ admission_answer E (E.row t) (given_as v (cond a (cond b Judgement.Held (Judgement.Refused Refusal.Membership))
-              (Judgement.Refused Refusal.Existence)))
+              ≡ admission_answer E (E.row t) (given_as v (cond a (cond b (Ok tt) (Err Refusal.Membership))
+              (Err Refusal.Existence)))
           real false b = refl
           real true false = refl
           real true true = refl
@@ -120,7 +117,7 @@ module _ {R : Type 0} (E : Encoding Ty Form R Value) where
   judged-as t v answer = go (exists_value v) (in_type t v)
     where
       go : (a b : Bool) → cond a (cond b answer (refused Refusal.Membership)) (refused Refusal.Existence)
-          ≡ answer_with answer (cond a (cond b Judgement.Held (Judgement.Refused Refusal.Membership)) (Judgement.Refused Refusal.Existence))
+          ≡ answer_with answer (cond a (cond b (Ok tt) (Err Refusal.Membership)) (Err Refusal.Existence))
       go false b = refl
       go true false = refl
       go true true = refl

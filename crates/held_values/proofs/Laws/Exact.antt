@@ -1,5 +1,6 @@
 -- "A type holds a value, .. when ..", in the paper's words, and that `holds_of` says exactly that; and the causes of 1 and 3 to 5 for a value,
 -- for a text, and for a value's text as an answer.
+use Rattle.std.specs.Prelude.{Option, Some, None, Result, Ok, Err}
 use mathlib.Core.Logic.{◌≢◌}
 use mathlib.Core.Path.{◌≡◌, refl, sym, ap, ◌∙◌}
 use mathlib.Core.Bool.{Bool, true, false, cond, not, ◌||◌, false≢true}
@@ -23,7 +24,6 @@ use Rattle.texts.specs.Forms.{value_form, year_of}
 use Rattle.texts.specs.Texts.{read_of, text_of}
 use Rattle.texts.specs.Times.{canonical}
 use Rattle.texts.specs.Years.{longest_year}
-use Rattle.texts.specs.declared.texts.TextRead.{TextRead}
 use Rattle.texts.specs.declared.values.Spelling.{Spelling}
 use Rattle.texts.specs.declared.values.Time.{Time}
 use Rattle.texts.specs.declared.values.Value.{Value}
@@ -31,15 +31,12 @@ use Rattle.types.specs.Types.{form_of, form_of_parts, well_formed, parts_of}
 use Rattle.types.specs.declared.types.DateType.{DateType}
 use Rattle.types.specs.declared.types.Parts.{Parts}
 use Rattle.types.specs.declared.types.TimeType.{TimeType}
-use Rattle.types.specs.declared.types.Window.{Window}
 use Rattle.types.specs.declared.types.«Type».{«Type» as Ty}
 use Rattle.held_values.specs.Admission.{admission_number, admitted, given_as, judged, judged_read, judgement_number, text_number}
 use Rattle.held_values.specs.Existence.{exists_value, hours_of}
 use Rattle.held_values.specs.Forms.{same_form}
 use Rattle.held_values.specs.Holding.{admits, admits_date, admits_time, holds_of, in_type, in_window}
 use Rattle.held_values.specs.Written.{written}
-use Rattle.held_values.specs.declared.admission.Admission.{Admission}
-use Rattle.held_values.specs.declared.admission.Judgement.{Judgement}
 use Rattle.held_values.proofs.Laws.Holding.{date_admitted, form_same, held, holds_both, in-type, of_form, same-form, time_admitted}
 use Rattle.types.specs.Years.{between, in_setting, names}
 use Rattle.types.specs.declared.years.YearSetting.{YearSetting}
@@ -54,7 +51,7 @@ pub record YearHeld (t : DateType) (y : ℤ) : Type 0 where
   pub setting : YearSetting
   pub named : names t.years setting ≡ true
   pub of_setting : in_setting setting y ≡ true
-  pub window : (lowest highest : Year) → t.window ≡ Window.Within lowest highest → (astronomical_of lowest ≤ℤ y) × (y ≤ℤ astronomical_of highest)
+  pub window : (lowest highest : Year) → t.window ≡ Some (lowest, highest) → (astronomical_of lowest ≤ℤ y) × (y ≤ℤ astronomical_of highest)
 
 -- "no hour 24", where the type has it.
 abbrev pub HourHeld : TimeType → Time → Type 0
@@ -121,10 +118,10 @@ admitted_words (Parts.DateTime s t) (Value.DateTime d u) f e =
 
 -- ---- and back
 
-window_test : (w : Window) (y : ℤ) → ((lowest highest : Year) → w ≡ Window.Within lowest highest → (astronomical_of lowest ≤ℤ y) × (y ≤ℤ astronomical_of highest))
+window_test : (w : Option (Year × Year)) (y : ℤ) → ((lowest highest : Year) → w ≡ Some (lowest, highest) → (astronomical_of lowest ≤ℤ y) × (y ≤ℤ astronomical_of highest))
     → in_window w y ≡ true
-window_test Window.Every y f = refl
-window_test (Window.Within lowest highest) y f =
+window_test None y f = refl
+window_test (Some (lowest, highest)) y f =
     let p = f lowest highest refl in in-range (astronomical_of lowest) (astronomical_of highest) y p.0 p.1
 
 year_test : (t : DateType) (d : Date) → YearHeld t (astronomical_of (year_of d)) → admits_date t d ≡ true
@@ -159,7 +156,7 @@ form-shown t v x y e = go (same_form (value_form v) (form_of t)) refl
     go : (b : Bool) → same_form (value_form v) (form_of t) ≡ b → value_form v ≡ form_of t
     go true b = same-form (value_form v) (form_of t) b
     go false b =
-        let n : read_of (form_of t) (text_of v) ≡ TextRead.NotOfForm =
+        let n : read_of (form_of t) (text_of v) ≡ None =
         other-form longest_year (omega arith) longest_year (omega arith) (omega arith) (omega arith) canonical v (form_of t) (exists-fits longest_year v x y)
         (λ q. false≢true (sym b ∙ form_same (value_form v) (form_of t) q)) in
         absurd (let z : 3 ≡ 0 = sym (ap text_number n) ∙ e in omega arith)
@@ -196,8 +193,8 @@ pub data WhyAdmitted (t : Ty) (l : List ℕ) : ℕ → Type 0 where
   -- a description that no settings and no name give
   one : well_formed t ≡ false → WhyAdmitted t l 1
   -- "the text .. not of the type's form"
-  three : well_formed t ≡ true → read_of (form_of t) l ≡ TextRead.NotOfForm → WhyAdmitted t l 3
-  value : well_formed t ≡ true → (v : Value) (s : Spelling) → read_of (form_of t) l ≡ TextRead.Value v s → (n : ℕ) → WhyJudged t v n → WhyAdmitted t l n
+  three : well_formed t ≡ true → read_of (form_of t) l ≡ None → WhyAdmitted t l 3
+  value : well_formed t ≡ true → (v : Value) (s : Spelling) → read_of (form_of t) l ≡ Some (v, s) → (n : ℕ) → WhyJudged t v n → WhyAdmitted t l n
 
 module _ (t : Ty) (v : Value) where
   pub judgement_why : WhyJudged t v (judgement_number (judged t v))
@@ -205,12 +202,12 @@ module _ (t : Ty) (v : Value) where
   judgement_why = real (exists_value v) refl
     where
       inside : exists_value v ≡ true → (b : Bool) → in_type t v ≡ b → WhyJudged t v
-          (judgement_number (cond b Judgement.Held (Judgement.Refused Refusal.Membership)))
+          (judgement_number (cond b (Ok tt) (Err Refusal.Membership)))
       inside x true b = holds_it (holds_both t v x b)
       inside x false b = five x b
 
       real : (b : Bool) → exists_value v ≡ b → WhyJudged t v (judgement_number
-          (cond b (cond (in_type t v) Judgement.Held (Judgement.Refused Refusal.Membership)) (Judgement.Refused Refusal.Existence)))
+          (cond b (cond (in_type t v) (Ok tt) (Err Refusal.Membership)) (Err Refusal.Existence)))
       real true b = inside b (in_type t v) refl
       real false b = four b
 
@@ -220,12 +217,12 @@ module _ (t : Ty) (v : Value) where
   judgement_only n (four x) = simp x
   judgement_only n (five x i) = simp (x, i)
 
-given_number : (v : Value) (j : Judgement) → admission_number (given_as v j) ≡ judgement_number j
-given_number v Judgement.Held = refl
-given_number v (Judgement.Refused why) = refl
+given_number : (v : Value) (j : Result (Unit {0}) Refusal) → admission_number (given_as v j) ≡ judgement_number j
+given_number v (Ok tt) = refl
+given_number v (Err why) = refl
 
 -- The number of a text that gives a value is 0.
-pub given_told : (v : Value) → admission_number (Admission.Value v) ≡ 0
+pub given_told : (v : Value) → admission_number (Ok v) ≡ 0
 given_told v = refl
 
 module _ (t : Ty) (l : List ℕ) where
@@ -233,12 +230,12 @@ module _ (t : Ty) (l : List ℕ) where
   unfolding admitted
   admission_why = formed (well_formed t) refl
     where
-      reads : well_formed t ≡ true → (r : TextRead) → read_of (form_of t) l ≡ r → WhyAdmitted t l (admission_number (judged_read t r))
-      reads w TextRead.NotOfForm r = three w r
-      reads w (TextRead.Value v s) r = rw (given_number v (judged t v)) (value w v s r (judgement_number (judged t v)) (judgement_why t v))
+      reads : well_formed t ≡ true → (r : Option (Value × Spelling)) → read_of (form_of t) l ≡ r → WhyAdmitted t l (admission_number (judged_read t r))
+      reads w None r = three w r
+      reads w (Some (v, s)) r = rw (given_number v (judged t v)) (value w v s r (judgement_number (judged t v)) (judgement_why t v))
 
       formed : (b : Bool) → well_formed t ≡ b → WhyAdmitted t l (admission_number
-          (cond b (judged_read t (read_of (form_of t) l)) (Admission.Refused Refusal.Settings)))
+          (cond b (judged_read t (read_of (form_of t) l)) (Err Refusal.Settings)))
       formed true b = reads b (read_of (form_of t) l) refl
       formed false b = one b
 

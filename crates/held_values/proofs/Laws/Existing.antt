@@ -1,4 +1,5 @@
 -- Values that exist have the digits of their fields, and so the laws of texts hold of them; what a type holds is what its texts give.
+use Rattle.std.specs.Prelude.{Option, Some, None, Result, Ok, Err}
 use mathlib.Core.Path.{◌∙◌, ◌≡◌, ap, refl}
 use mathlib.Core.Bool.{Bool, cond, false, true}
 use mathlib.Core.List.{List, []}
@@ -26,7 +27,6 @@ use Rattle.texts.specs.Texts.{read_of, render, shown_in, text_of}
 use Rattle.texts.specs.Times.{canonical}
 use Rattle.texts.specs.Years.{longest_year}
 use Rattle.texts.specs.declared.forms.Form.{Form}
-use Rattle.texts.specs.declared.texts.TextRead.{TextRead}
 use Rattle.texts.specs.declared.values.Clock.{Clock}
 use Rattle.texts.specs.declared.values.Spelling.{Spelling}
 use Rattle.texts.specs.declared.values.Time.{Time}
@@ -39,8 +39,6 @@ use Rattle.held_values.specs.Admission.{admitted, given_as, judged, judged_read,
 use Rattle.held_values.specs.Existence.{exists_time, exists_value, hours_of, minutes_of, seconds_of}
 use Rattle.held_values.specs.Holding.{admits, admits_date, admits_time, holds_of, in_type}
 use Rattle.held_values.specs.Written.{printed}
-use Rattle.held_values.specs.declared.admission.Admission.{Admission}
-use Rattle.held_values.specs.declared.admission.Judgement.{Judgement}
 
 -- ---- what exists fits
 
@@ -98,7 +96,7 @@ pub one-text : (v w : Value) → exists_value v ≡ true → exists_value w ≡ 
 one-text v w e f x y = one_value 20 (omega arith) (omega arith) canonical canonical v w (exists-fits 20 v e x) (exists-fits 20 w f y)
 
 -- The canonical text of an existing value, read at any other form, gives nothing.
-pub no_other-form : (v : Value) → exists_value v ≡ true → ShortYear 20 v → (f : Form) → (value_form v ≡ f → ⊥) → read_of f (text_of v) ≡ TextRead.NotOfForm
+pub no_other-form : (v : Value) → exists_value v ≡ true → ShortYear 20 v → (f : Form) → (value_form v ≡ f → ⊥) → read_of f (text_of v) ≡ None
 no_other-form v e y f = other-form 20 (omega arith) longest_year (omega arith) (omega arith) (omega arith) canonical v f (exists-fits 20 v e y)
 
 -- ---- texts of what a type holds
@@ -126,60 +124,60 @@ module _ (t : Ty) (v : Value) (h : holds_of t v ≡ true) where
       exists-fits longest_year v p.0 (admits-short (parts_of t) v q.0 q.1)
 
   -- Any text of a value that the type holds is read at the type's form as that value.
-  pub held_read : (s : Spelling) → read_of (form_of t) (render s v) ≡ TextRead.Value v (shown_in s v)
+  pub held_read : (s : Spelling) → read_of (form_of t) (render s v) ≡ Some (v, (shown_in s v))
   held_read s =
       let q = in-type t v (held t v h).1 in
       rw (← q.0) (read_render longest_year (omega arith) (omega arith) s v held_fits)
 
   -- A well-formed type admits a value that it holds, in every spelling.
-  pub held-admitted : well_formed t ≡ true → (s : Spelling) → admitted t (render s v) ≡ Admission.Value v
+  pub held-admitted : well_formed t ≡ true → (s : Spelling) → admitted t (render s v) ≡ Ok v
   unfolding admitted judged
   held-admitted w s = let p = held t v h in rw (w, held_read s, p.0, p.1)
 
 -- What is judged to be held is held.
-pub judged-held : (t : Ty) (v : Value) → judged t v ≡ Judgement.Held → holds_of t v ≡ true
+pub judged-held : (t : Ty) (v : Value) → judged t v ≡ Ok tt → holds_of t v ≡ true
 unfolding judged
 judged-held t v = go (exists_value v) refl (in_type t v) refl where
   go : (a : Bool) → exists_value v ≡ a → (b : Bool) → in_type t v ≡ b →
-      cond a (cond b Judgement.Held (Judgement.Refused Refusal.Membership)) (Judgement.Refused Refusal.Existence) ≡ Judgement.Held → holds_of t v ≡ true
+      cond a (cond b (Ok (tt {0})) (Err Refusal.Membership)) (Err Refusal.Existence) ≡ Ok tt → holds_of t v ≡ true
   go true x true y g = holds_both t v x y
   go true x false y g = absurd (let z : ◌≡◌ {A = ℕ} 0 1 = cc in omega arith)
   go false x b y g = absurd (let z : ◌≡◌ {A = ℕ} 0 1 = cc in omega arith)
 
 -- A value that is given after it was judged is held, and is the one that was judged.
-given_held : (t : Ty) (w v : Value) → given_as w (judged t w) ≡ Admission.Value v → (holds_of t v ≡ true) × (w ≡ v)
+given_held : (t : Ty) (w v : Value) → given_as w (judged t w) ≡ Ok v → (holds_of t v ≡ true) × (w ≡ v)
 given_held t w v = go (judged t w) refl where
-  go : (j : Judgement) → judged t w ≡ j → given_as w j ≡ Admission.Value v → (holds_of t v ≡ true) × (w ≡ v)
-  go Judgement.Held e g = let z : w ≡ v = cc in (rw (← z) (judged-held t w e), z)
-  go (Judgement.Refused why) e g = absurd (let z : ◌≡◌ {A = ℕ} 0 1 = cc in omega arith)
+  go : (j : Result (Unit {0}) Refusal) → judged t w ≡ j → given_as w j ≡ Ok v → (holds_of t v ≡ true) × (w ≡ v)
+  go (Ok tt) e g = let z : w ≡ v = cc in (rw (← z) (judged-held t w e), z)
+  go (Err why) e g = absurd (let z : ◌≡◌ {A = ℕ} 0 1 = cc in omega arith)
 
 -- What a text gives under a type is a value that the type holds, and the text is one of its spellings.
-pub admitted-held : (t : Ty) (l : List ℕ) (v : Value) → admitted t l ≡ Admission.Value v →
+pub admitted-held : (t : Ty) (l : List ℕ) (v : Value) → admitted t l ≡ Ok v →
     (well_formed t ≡ true) × (holds_of t v ≡ true) × (s : Spelling) × (l ≡ render s v)
 unfolding admitted
 admitted-held t l v = go (well_formed t) refl (read_of (form_of t) l) refl where
-  go : (a : Bool) → well_formed t ≡ a → (r : TextRead) → read_of (form_of t) l ≡ r
-      → cond a (judged_read t r) (Admission.Refused Refusal.Settings) ≡ Admission.Value v →
+  go : (a : Bool) → well_formed t ≡ a → (r : Option (Value × Spelling)) → read_of (form_of t) l ≡ r
+      → cond a (judged_read t r) (Err Refusal.Settings) ≡ Ok v →
       (well_formed t ≡ true) × (holds_of t v ≡ true) × (s : Spelling) × (l ≡ render s v)
-  go true x (TextRead.Value w s) y g =
+  go true x (Some (w, s)) y g =
       let p = given_held t w v g in
       let q = render_read longest_year (omega arith) (omega arith) (form_of t) l w s y in
       (x, p.0, s, q.0 ∙ ap (render s) p.1)
-  go true x TextRead.NotOfForm y g = absurd (let z : ◌≡◌ {A = ℕ} 0 1 = cc in omega arith)
+  go true x None y g = absurd (let z : ◌≡◌ {A = ℕ} 0 1 = cc in omega arith)
   go false x r y g = absurd (let z : ◌≡◌ {A = ℕ} 0 1 = cc in omega arith)
 
 -- The number of a text that is not of the form is 3, and of any other 0.
-pub text_told : (v : Value) (s : Spelling) → (text_number (TextRead.Value v s) ≡ 0) × (text_number TextRead.NotOfForm ≡ 3)
+pub text_told : (v : Value) (s : Spelling) → (text_number (Some (v, s)) ≡ 0) × (text_number None ≡ 3)
 text_told v s = (refl, refl)
 
 -- Where a text's number at the type's form is 3, that is the answer, whatever else there is to say of it.
 pub form-first : (t : Ty) (l : List ℕ) → well_formed t ≡ true → text_number (read_of (form_of t) l) ≡ 3 →
-    admitted t l ≡ Admission.Refused Refusal.Form
+    admitted t l ≡ Err Refusal.Form
 unfolding admitted
 form-first t l w = go (read_of (form_of t) l) where
-  go : (r : TextRead) → text_number r ≡ 3 → cond (well_formed t) (judged_read t r) (Admission.Refused Refusal.Settings) ≡ Admission.Refused Refusal.Form
-  go (TextRead.Value v s) e = absurd (let z : ◌≡◌ {A = ℕ} 0 1 = omega arith in omega arith)
-  go TextRead.NotOfForm e = rw w
+  go : (r : Option (Value × Spelling)) → text_number r ≡ 3 → cond (well_formed t) (judged_read t r) (Err Refusal.Settings) ≡ Err Refusal.Form
+  go (Some (v, s)) e = absurd (let z : ◌≡◌ {A = ℕ} 0 1 = omega arith in omega arith)
+  go None e = rw w
 
 -- ---- the text of a value, in a buffer that has room for it
 

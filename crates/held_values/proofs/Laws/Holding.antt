@@ -1,4 +1,5 @@
 -- Forms are told apart, and what a type holds.
+use Rattle.std.specs.Prelude.{Option, Some, None}
 use mathlib.Core.Path.{◌≡◌, refl, sym, ap}
 use mathlib.Core.Bool.{Bool, true, false, ◌&&◌, false≢true}
 use Prim.Native.Nat.{ℕ}
@@ -18,7 +19,6 @@ use Rattle.texts.specs.declared.values.Time.{Time}
 use Rattle.texts.specs.declared.values.Value.{Value}
 use Rattle.types.specs.declared.types.DateType.{DateType}
 use Rattle.types.specs.declared.types.TimeType.{TimeType}
-use Rattle.types.specs.declared.types.Window.{Window}
 use Rattle.types.specs.declared.types.Parts.{Parts}
 use Rattle.types.specs.declared.types.«Type».{«Type» as Ty}
 use Rattle.texts.specs.Forms.{date_form, time_form, value_form}
@@ -132,9 +132,9 @@ unfolding admits_time
 time_admitted t time n e h = let f : false ≡ true = simp (n, eq-eqb (hours_of time.clock) 24 h) at e in false≢true f
 
 -- The window of a type, where it has dates.
-abbrev pub window_of : Parts → Window
+abbrev pub window_of : Parts → Option (Year × Year)
 window_of (Parts.Date date) = date.window
-window_of (Parts.Time time) = Window.Every
+window_of (Parts.Time time) = None
 window_of (Parts.DateTime date time) = date.window
 
 so : (b : Bool) → b ≡ true → T b
@@ -155,12 +155,12 @@ no_year lowest highest y h e =
     clash_ℤ (<ℤ-≤ℤ_trans above low) high
 
 module _ (lowest highest : Year) (above : lt_z (astronomical_of highest) (astronomical_of lowest) ≡ true) where
-  no-date : (t : DateType) (date : Date) → t.window ≡ Window.Within lowest highest → admits_date t date ≡ true → ⊥
+  no-date : (t : DateType) (date : Date) → t.window ≡ Some (lowest, highest) → admits_date t date ≡ true → ⊥
   no-date t date w e =
       let p : between (astronomical_of lowest) (astronomical_of highest) (astronomical_of (year_of date)) ≡ true = rw w at (date_admitted t date e).1 in
       no_year (astronomical_of lowest) (astronomical_of highest) (astronomical_of (year_of date)) above p
 
-  no_value : (parts : Parts) (value : Value) → window_of parts ≡ Window.Within lowest highest
+  no_value : (parts : Parts) (value : Value) → window_of parts ≡ Some (lowest, highest)
       → same_form (value_form value) (form_of_parts parts) ≡ true → admits parts value ≡ true → ⊥
   no_value (Parts.Date t) (Value.Date date) w f e = no-date t date w e
   no_value (Parts.Date t) (Value.Time time) w f e = false≢true f
@@ -171,7 +171,7 @@ module _ (lowest highest : Year) (above : lt_z (astronomical_of highest) (astron
   no_value (Parts.DateTime t u) (Value.DateTime date time) w f e = no-date t date w (both (admits_date t date) (admits_time u time) e).0
 
   -- "A lowest year above the highest makes a type with no values."
-  pub window_empty : (t : Ty) → window_of (parts_of t) ≡ Window.Within lowest highest → (value : Value) → holds_of t value ≡ false
+  pub window_empty : (t : Ty) → window_of (parts_of t) ≡ Some (lowest, highest) → (value : Value) → holds_of t value ≡ false
   unfolding in_type
   window_empty t w value =
       unheld (holds_of t value)

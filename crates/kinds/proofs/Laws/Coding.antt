@@ -1,4 +1,5 @@
 -- What the demands and the causes of the seven numbers rest on, for any lawful kind.
+use Rattle.std.specs.Prelude.{Option, Some, None}
 use mathlib.Core.Path.{◌≡◌, refl, sym}
 use mathlib.Core.Bool.{Bool, true, false, cond}
 use mathlib.Core.List.{List}
@@ -9,7 +10,6 @@ use Rattle.octets.proofs.Laws.Octets.{equal, equal_test}
 use Rattle.answers.specs.Outcomes.{Answer, done, refused}
 use Rattle.answers.specs.declared.counts.Bits.{Bits}
 use Rattle.answers.specs.declared.refusals.Refusal.{Refusal}
-use mathlib.Core.Option.{Option, some, none}
 use Rattle.kinds.specs.Kinds.{Kind}
 use Rattle.kinds.specs.Coding.{judged_as, judged_text, encoded, compared, judged_octets, decoded}
 use Rattle.kinds.specs.Lawful.{Holds, Lawful, Accepted}
@@ -23,7 +23,7 @@ passed false answer why result bits e = absurd (let z : ◌≡◌ {A = ℕ} 0 1 
 module _ {T F R A : Type 0} (K : Kind T F R A) where
   -- What is accepted of a text is the encoding of a value that the type holds.
   pub encoded_only : (t : T) (text result : List ℕ) (bits : Bits) → encoded K t text ≡ done result bits
-      → (a : A) × Holds K t a × (K.read_text (K.form t) text ≡ some a)
+      → (a : A) × Holds K t a × (K.read_text (K.form t) text ≡ Some a)
       × (◌≡◌ {A = Answer} (done (K.encoding (K.row t) a) (K.count (K.row t) a)) (done result bits))
   unfolding encoded judged_text judged_as
   encoded_only t text result bits e =
@@ -31,16 +31,16 @@ module _ {T F R A : Type 0} (K : Kind T F R A) where
       go (K.read_text (K.form t) text) refl w.0 w.1
     where
       go : (o : Option A) → K.read_text (K.form t) text ≡ o → K.well_formed t ≡ true → judged_text K t o ≡ done result bits
-          → (a : A) × Holds K t a × (K.read_text (K.form t) text ≡ some a)
+          → (a : A) × Holds K t a × (K.read_text (K.form t) text ≡ Some a)
           × (◌≡◌ {A = Answer} (done (K.encoding (K.row t) a) (K.count (K.row t) a)) (done result bits))
-      go none r w e = absurd (let z : ◌≡◌ {A = ℕ} 0 1 = cc in omega arith)
-      go (some a) r w e =
+      go None r w e = absurd (let z : ◌≡◌ {A = ℕ} 0 1 = cc in omega arith)
+      go (Some a) r w e =
           let p = passed (K.exists a) _ _ result bits e in
           let q = passed (K.in_type t a) _ _ result bits p.1 in
           (a, record { formed = w; real = p.0; inside = q.0 }, r, q.1)
 
   -- Any text of a value that the type holds is encoded.
-  pub encoded_own : (t : T) (text : List ℕ) (a : A) → Holds K t a → K.read_text (K.form t) text ≡ some a
+  pub encoded_own : (t : T) (text : List ℕ) (a : A) → Holds K t a → K.read_text (K.form t) text ≡ Some a
       → encoded K t text ≡ done (K.encoding (K.row t) a) (K.count (K.row t) a)
   unfolding encoded judged_text judged_as
   encoded_own t text a h e = simp (h.formed, e, h.real, h.inside)
@@ -53,8 +53,8 @@ module _ {T F R A : Type 0} (K : Kind T F R A) where
       go (K.read_octets (K.row t) (K.form t) octets) w.0 w.1
     where
       go : (o : Option A) → K.well_formed t ≡ true → judged_octets K t octets o ≡ done result bits → Accepted K t octets result
-      go none w e = absurd (let z : ◌≡◌ {A = ℕ} 0 1 = cc in omega arith)
-      go (some a) w e =
+      go None w e = absurd (let z : ◌≡◌ {A = ℕ} 0 1 = cc in omega arith)
+      go (Some a) w e =
           let p = passed (K.exists a) _ _ result bits e in
           let q = passed (K.in_type t a) _ _ result bits p.1 in
           let c = passed (eq_list octets (K.encoding (K.row t) a)) _ _ result bits q.1 in
@@ -96,24 +96,24 @@ module _ {T F R A : Type 0} (K : Kind T F R A) (t : T) (input : List ℕ) where
 
   -- Under any other, what is not read is 3, and a value is judged by the tests in their order.
   module _ (w : K.well_formed t ≡ true) where
-    pub encoded_none : K.read_text (K.form t) input ≡ none → encoded K t input ≡ refused Refusal.Form
+    pub encoded_none : K.read_text (K.form t) input ≡ None → encoded K t input ≡ refused Refusal.Form
     unfolding encoded judged_text
     encoded_none r = simp (w, r)
 
-    pub encoded_some : (a : A) → K.read_text (K.form t) input ≡ some a
+    pub encoded_some : (a : A) → K.read_text (K.form t) input ≡ Some a
         → encoded K t input ≡ answered (K.exists a) (K.in_type t a) true (K.encoding (K.row t) a) (K.count (K.row t) a)
     unfolding encoded judged_text judged_as
     encoded_some a r = simp (w, r)
 
-    pub decoded_none : K.read_octets (K.row t) (K.form t) input ≡ none → decoded K t input ≡ refused Refusal.Form
+    pub decoded_none : K.read_octets (K.row t) (K.form t) input ≡ None → decoded K t input ≡ refused Refusal.Form
     unfolding decoded judged_octets
     decoded_none r = simp (w, r)
 
-    pub decoded-judged : (a : A) → K.read_octets (K.row t) (K.form t) input ≡ some a → decoded K t input ≡ judged_as K t a (compared K t input a)
+    pub decoded-judged : (a : A) → K.read_octets (K.row t) (K.form t) input ≡ Some a → decoded K t input ≡ judged_as K t a (compared K t input a)
     unfolding decoded judged_octets
     decoded-judged a r = simp (w, r)
 
-    pub decoded_some : (a : A) → K.read_octets (K.row t) (K.form t) input ≡ some a
+    pub decoded_some : (a : A) → K.read_octets (K.row t) (K.form t) input ≡ Some a
         → decoded K t input ≡ answered (K.exists a) (K.in_type t a) (eq_list input (K.encoding (K.row t) a)) (K.text_of a) (K.count (K.row t) a)
     unfolding decoded judged_octets judged_as compared
     decoded_some a r = simp (w, r)

@@ -1,10 +1,10 @@
 -- Replies, from the octets that are stored to the line.
 use mathlib.Core.Path.{◌≡◌, refl, ap, ◌∙◌}
-use mathlib.Core.Bool.{true, and-false}
+use mathlib.Core.Bool.{true, cond, and-false}
 use mathlib.Core.List.{List, ◌∷◌, ◌++◌}
 use Prim.Native.Nat.{ℕ, ◌+◌, ◌-◌, ◌<◌, ◌≤◌}
 use native.Mathlib.Omega.{arith}
-use lib.Dec.{ltb}
+use lib.Dec.{eqb, ltb}
 use lib.ListN.{length, take, drop, length-drop}
 use lib.Seq.{take_all, take-append_seam}
 use borrow.Author.Tests.{eq-eqb, ne_eqb, le-leb, lt-leb, lt-ltb, le-ltb}
@@ -17,10 +17,14 @@ use Rattle.answers.specs.declared.outcomes.Outcome.{Outcome}
 use Rattle.answers.specs.Outcomes.{Answer, done, refused, outcome_of, room_of}
 use Rattle.line_replies.specs.Lines.{longest_line, unasked, answer_shown, worked, cut_again, reply_of}
 use Rattle.line_replies.specs.Rooms.{reply_capacity, reply_length, room_with}
-use Rattle.lines.specs.Steps.{reply_to}
 use Rattle.answers.proofs.Laws.Outcomes.{Told, given, withheld, told, number_range, enough, none}
 
 -- ---- the reply to an outcome
+
+-- The reply to a number, and after 0 to so many octets at the front of a buffer.
+unfoldable pub reply_to : (List ℕ → List ℕ) → ℕ → ℕ → List ℕ → List ℕ
+reply_to show number count buffer =
+    cond (eqb number 0) (bytes "0 " ++ show (take count buffer) ++ bytes "\n") ((48 + number) ∷ bytes "\n")
 
 module _ (show : List ℕ → List ℕ) (number count : ℕ) (buffer : List ℕ) where
   pub reply_refused : (number ≡ 0 → ⊥) → reply_to show number count buffer ≡ (48 + number) ∷ bytes "\n"

@@ -1,5 +1,7 @@
 -- Settings lists as checked values: a text, and the numbers of its Basic, Date, Year, Time, Local-or-UTC and Interval-type settings by their places in
 -- "Base settings", with Interval as the fourth Basic (#101), where Fn adds n times 10 and 0 is "not there". A list that is refused has none.
+use Rattle.std.specs.Option.{is_some}
+use Rattle.lists.specs.Lists.{numbers_in}
 use mathlib.Core.Path.{◌≡◌, refl}
 use mathlib.Core.Bool.{Bool, true, not, beq, ◌&&◌}
 use mathlib.Core.List.{List, [], ◌∷◌}
@@ -114,7 +116,7 @@ alone =
 all_right : List Row → Bool
 all_right [] = true
 all_right (list s b d y t z i ∷ l) =
-    eq_list (list_of (bytes s)).numbers (b ∷ d ∷ y ∷ t ∷ z ∷ i ∷ []) && beq (list_of (bytes s)).readable (not (eqb b 0)) && all_right l
+    eq_list (numbers_in (list_of (bytes s))) (b ∷ d ∷ y ∷ t ∷ z ∷ i ∷ []) && beq (is_some (list_of (bytes s))) (not (eqb b 0)) && all_right l
 
 lists_checked : all_right rows ≡ true
 unfolding rows all_right list_of completed complete timed_list dated_list interval_list add_pairs add_pair split_on pair_of fraction_number place_from eq_list

@@ -1,22 +1,24 @@
 -- "Base settings": their words, and that a text is read as a setting exactly where it is one of them.
 use mathlib.Core.Path.{◌≡◌, refl, ap, sym, ◌∙◌, subst}
 use mathlib.Core.List.{List, [], ◌∷◌, ◌++◌}
-use mathlib.Core.Bool.{Bool, true, false, ◌&&◌, cond, and-eq-true_iff}
+use mathlib.Core.Bool.{Bool, true, false, cond, and-eq-true_iff}
 use Prim.Native.Nat.{ℕ, suc, ◌+◌, ◌-◌, ◌*◌, ◌<◌, ◌≤◌}
 use Prim.Native.String.{String}
 use native.Mathlib.Omega.{arith}
-use lib.Dec.{eqb, leb}
+use lib.Dec.{leb}
 use lib.ListN.{length, get_or, take}
 use lib.Seq.{take-suc, take_all}
-use borrow.Author.Tests.{leb-true, le-leb, ne_eqb}
+use borrow.Author.Tests.{leb-true, le-leb}
 use Rattle.octets.specs.Octets.{bytes, eq_list}
 use Rattle.octets.proofs.Laws.Octets.{equal}
 use Rattle.lists.specs.Words.{place_from, place_in, basic_words, date_words, year_words, clock_words, fraction_words, zone_words, interval_words}
-use Rattle.lists.specs.Words.{with_digits, fraction_number, first_number, pair, pair_of}
+use Rattle.lists.specs.Words.{with_digits, is_digit_count, fraction_number, pair, pair_of}
+use Rattle.std.specs.Prelude.{Option, Some, None}
+use Rattle.std.specs.Option.{option_map, option_or}
 use Rattle.lists.specs.declared.words.Pair.{Pair}
 use Rattle.types.specs.Years.{year_number, year_word}
 use Rattle.types.specs.declared.years.YearSetting.{YearSetting}
-use Rattle.lists.proofs.Laws.Lists.{first-of}
+use Rattle.lists.proofs.Laws.Lists.{every_pair}
 
 -- The words, each with its property and the number of its setting: there are no others.
 pub data Word : List ℕ → Pair → Type 0 where
@@ -52,64 +54,67 @@ pub data Word : List ℕ → Pair → Type 0 where
 -- ---- what is read is a word
 
 -- What holds where a text is the first word, and of its place among the others, holds of its place.
-place_case : (w : List ℕ) (P : ℕ → Type 0) (k : ℕ) (s : String) (ws : List String) → (w ≡ bytes s → P k) → P (place_from (suc k) ws w)
-    → P (place_from k (s ∷ ws) w)
+place_case : (w : List ℕ) (P : Option ℕ → Type 0) (k : ℕ) (s : String) (ws : List (List ℕ)) → (w ≡ bytes s → P (Some k)) → P (place_from (suc k) ws w)
+    → P (place_from k (bytes s ∷ ws) w)
 unfolding place_from
 place_case w P k s ws h r = go (eq_list w (bytes s)) refl
   where
-    go : (b : Bool) → eq_list w (bytes s) ≡ b → P (cond b k (place_from (suc k) ws w))
+    go : (b : Bool) → eq_list w (bytes s) ≡ b → P (cond b (Some k) (place_from (suc k) ws w))
     go true e = h (equal w (bytes s) e)
     go false e = r
 
-no_place : (w : List ℕ) (p k : ℕ) → 0 < place_from k [] w → Word w (pair p (place_from k [] w))
-unfolding place_from
-no_place w p k h = absurd (omega arith)
-
 module _ (w : List ℕ) where
-  abbrev Spelled-in : ℕ → ℕ → Type 0
-  Spelled-in p n = 0 < n → Word w (pair p n)
+  abbrev Spelled-in : ℕ → Option ℕ → Type 0
+  Spelled-in p o = (n : ℕ) → o ≡ Some n → Word w (pair p n)
+
+  no_place : (p k : ℕ) → Spelled-in p (place_from k [] w)
+  unfolding place_from
+  no_place p k n e = cc
+
+  is_word : (p k : ℕ) {v : List ℕ} → Word v (pair p k) → w ≡ v → Spelled-in p (Some k)
+  is_word p k x e n h = let q : k ≡ n = cc in subst (λ (m : ℕ). Word w (pair p m)) q (subst (λ (u : List ℕ). Word u (pair p k)) (sym e) x)
 
   basic_spelled : Spelled-in 0 (place_in basic_words w)
   basic_spelled =
-      place_case w (Spelled-in 0) 1 "Basic=Date" _ (λ e h. rw e basic_date)
-      (place_case w (Spelled-in 0) 2 "Basic=Time" _ (λ e h. rw e basic_time)
-      (place_case w (Spelled-in 0) 3 "Basic=Date-Time" _ (λ e h. rw e basic_date_time)
-      (place_case w (Spelled-in 0) 4 "Basic=Interval" _ (λ e h. rw e basic_interval) (no_place w 0 5))))
+      place_case w (Spelled-in 0) 1 "Basic=Date" _ (is_word 0 1 basic_date)
+      (place_case w (Spelled-in 0) 2 "Basic=Time" _ (is_word 0 2 basic_time)
+      (place_case w (Spelled-in 0) 3 "Basic=Date-Time" _ (is_word 0 3 basic_date_time)
+      (place_case w (Spelled-in 0) 4 "Basic=Interval" _ (is_word 0 4 basic_interval) (no_place 0 5))))
 
   date_spelled : Spelled-in 1 (place_in date_words w)
   date_spelled =
-      place_case w (Spelled-in 1) 1 "Date=Y" _ (λ e h. rw e date_Y)
-      (place_case w (Spelled-in 1) 2 "Date=YM" _ (λ e h. rw e date_YM)
-      (place_case w (Spelled-in 1) 3 "Date=YMD" _ (λ e h. rw e date_YMD)
-      (place_case w (Spelled-in 1) 4 "Date=YD" _ (λ e h. rw e date_YD)
-      (place_case w (Spelled-in 1) 5 "Date=YW" _ (λ e h. rw e date_YW)
-      (place_case w (Spelled-in 1) 6 "Date=YWD" _ (λ e h. rw e date_YWD) (no_place w 1 7))))))
+      place_case w (Spelled-in 1) 1 "Date=Y" _ (is_word 1 1 date_Y)
+      (place_case w (Spelled-in 1) 2 "Date=YM" _ (is_word 1 2 date_YM)
+      (place_case w (Spelled-in 1) 3 "Date=YMD" _ (is_word 1 3 date_YMD)
+      (place_case w (Spelled-in 1) 4 "Date=YD" _ (is_word 1 4 date_YD)
+      (place_case w (Spelled-in 1) 5 "Date=YW" _ (is_word 1 5 date_YW)
+      (place_case w (Spelled-in 1) 6 "Date=YWD" _ (is_word 1 6 date_YWD) (no_place 1 7))))))
 
   year_spelled : Spelled-in 2 (place_in year_words w)
   year_spelled =
-      place_case w (Spelled-in 2) 1 "Year=Basic" _ (λ e h. rw e (year YearSetting.Basic))
-      (place_case w (Spelled-in 2) 2 "Year=Proleptic" _ (λ e h. rw e (year YearSetting.Proleptic))
-      (place_case w (Spelled-in 2) 3 "Year=Negative" _ (λ e h. rw e (year YearSetting.Negative))
-      (place_case w (Spelled-in 2) 4 "Year=L5" _ (λ e h. rw e (year YearSetting.L5))
-      (place_case w (Spelled-in 2) 5 "Year=L6" _ (λ e h. rw e (year YearSetting.L6))
-      (place_case w (Spelled-in 2) 6 "Year=L7" _ (λ e h. rw e (year YearSetting.L7))
-      (place_case w (Spelled-in 2) 7 "Year=L8" _ (λ e h. rw e (year YearSetting.L8))
-      (place_case w (Spelled-in 2) 8 "Year=L9" _ (λ e h. rw e (year YearSetting.L9)) (no_place w 2 9))))))))
+      place_case w (Spelled-in 2) 1 "Year=Basic" _ (is_word 2 1 (year YearSetting.Basic))
+      (place_case w (Spelled-in 2) 2 "Year=Proleptic" _ (is_word 2 2 (year YearSetting.Proleptic))
+      (place_case w (Spelled-in 2) 3 "Year=Negative" _ (is_word 2 3 (year YearSetting.Negative))
+      (place_case w (Spelled-in 2) 4 "Year=L5" _ (is_word 2 4 (year YearSetting.L5))
+      (place_case w (Spelled-in 2) 5 "Year=L6" _ (is_word 2 5 (year YearSetting.L6))
+      (place_case w (Spelled-in 2) 6 "Year=L7" _ (is_word 2 6 (year YearSetting.L7))
+      (place_case w (Spelled-in 2) 7 "Year=L8" _ (is_word 2 7 (year YearSetting.L8))
+      (place_case w (Spelled-in 2) 8 "Year=L9" _ (is_word 2 8 (year YearSetting.L9)) (no_place 2 9))))))))
 
   clock_spelled : Spelled-in 3 (place_in clock_words w)
   clock_spelled =
-      place_case w (Spelled-in 3) 1 "Time=H" _ (λ e h. rw e time_H)
-      (place_case w (Spelled-in 3) 2 "Time=HM" _ (λ e h. rw e time_HM)
-      (place_case w (Spelled-in 3) 3 "Time=HMS" _ (λ e h. rw e time_HMS) (no_place w 3 4)))
+      place_case w (Spelled-in 3) 1 "Time=H" _ (is_word 3 1 time_H)
+      (place_case w (Spelled-in 3) 2 "Time=HM" _ (is_word 3 2 time_HM)
+      (place_case w (Spelled-in 3) 3 "Time=HMS" _ (is_word 3 3 time_HMS) (no_place 3 4)))
 
   zone_spelled : Spelled-in 4 (place_in zone_words w)
   zone_spelled =
-      place_case w (Spelled-in 4) 1 "Local-or-UTC=L" _ (λ e h. rw e zone_L)
-      (place_case w (Spelled-in 4) 2 "Local-or-UTC=Z" _ (λ e h. rw e zone_Z)
-      (place_case w (Spelled-in 4) 3 "Local-or-UTC=LD" _ (λ e h. rw e zone_LD) (no_place w 4 4)))
+      place_case w (Spelled-in 4) 1 "Local-or-UTC=L" _ (is_word 4 1 zone_L)
+      (place_case w (Spelled-in 4) 2 "Local-or-UTC=Z" _ (is_word 4 2 zone_Z)
+      (place_case w (Spelled-in 4) 3 "Local-or-UTC=LD" _ (is_word 4 3 zone_LD) (no_place 4 4)))
 
   interval_spelled : Spelled-in 5 (place_in interval_words w)
-  interval_spelled = place_case w (Spelled-in 5) 1 "Interval-type=D" _ (λ e h. rw e interval_D) (no_place w 5 2)
+  interval_spelled = place_case w (Spelled-in 5) 1 "Interval-type=D" _ (is_word 5 1 interval_D) (no_place 5 2)
 
 -- A fraction word with one digit behind it.
 last_apart : (w : List ℕ) → 0 < length w → w ≡ take (length w - 1) w ++ get_or w (length w - 1) 0 ∷ []
@@ -122,11 +127,11 @@ some_octet [] i h = absurd (omega arith)
 some_octet (x ∷ w) i h = omega arith
 
 -- What is known of the places of fraction words.
-data FractionWord (u : List ℕ) : ℕ → Type 0 where
-  HF : u ≡ bytes "Time=HF" → FractionWord u 1
-  HMF : u ≡ bytes "Time=HMF" → FractionWord u 2
-  HMSF : u ≡ bytes "Time=HMSF" → FractionWord u 3
-  no : FractionWord u 0
+data FractionWord (u : List ℕ) : Option ℕ → Type 0 where
+  HF : u ≡ bytes "Time=HF" → FractionWord u (Some 1)
+  HMF : u ≡ bytes "Time=HMF" → FractionWord u (Some 2)
+  HMSF : u ≡ bytes "Time=HMSF" → FractionWord u (Some 3)
+  no : FractionWord u None
 
 no_fraction_lem : (u : List ℕ) (k : ℕ) → FractionWord u (place_from k [] u)
 unfolding place_from
@@ -140,7 +145,7 @@ fraction_word u =
 
 fraction-spelled : (w : List ℕ) → Spelled-in w 3 (fraction_number w)
 unfolding fraction_number
-fraction-spelled w = go (leb 49 d && leb d 57) refl
+fraction-spelled w = go (is_digit_count d) refl
   where
     d : ℕ
     d = get_or w (length w - 1) 0
@@ -148,46 +153,36 @@ fraction-spelled w = go (leb 49 d && leb d 57) refl
     u : List ℕ
     u = take (length w - 1) w
 
-    spelled : (s : List ℕ) → 49 ≤ d → u ≡ s → s ++ (48 + (d - 48)) ∷ [] ≡ w
+    spelled : (s : List ℕ) → 49 ≤ d → u ≡ s → w ≡ s ++ (48 + (d - 48)) ∷ []
     spelled s h e =
         let i : 48 + (d - 48) ≡ d = omega arith in
-        ap (λ (x : ℕ). s ++ x ∷ []) i ∙ sym (last_apart w (some_octet w (length w - 1) h) ∙ ap (λ (l : List ℕ). l ++ d ∷ []) e)
+        sym (ap (λ (x : ℕ). s ++ x ∷ []) i ∙ sym (last_apart w (some_octet w (length w - 1) h) ∙ ap (λ (l : List ℕ). l ++ d ∷ []) e))
 
-    word : 49 ≤ d → d ≤ 57 → (n : ℕ) → FractionWord u n → 0 < with_digits (d - 48) n → Word w (pair 3 (with_digits (d - 48) n))
-    word h k n no p = absurd (omega arith)
-    word h k n (HF e) p = subst (λ (x : List ℕ). Word x (pair 3 ((d - 48) * 10 + 1))) (spelled _ h e) (time_HF (d - 48) (omega arith) (omega arith))
-    word h k n (HMF e) p = subst (λ (x : List ℕ). Word x (pair 3 ((d - 48) * 10 + 2))) (spelled _ h e) (time_HMF (d - 48) (omega arith) (omega arith))
-    word h k n (HMSF e) p = subst (λ (x : List ℕ). Word x (pair 3 ((d - 48) * 10 + 3))) (spelled _ h e) (time_HMSF (d - 48) (omega arith) (omega arith))
+    word : 49 ≤ d → d ≤ 57 → (o : Option ℕ) → FractionWord u o → Spelled-in w 3 (option_map (with_digits (d - 48)) o)
+    word h k o no = λ n e. cc
+    word h k o (HF e) = is_word w 3 _ (time_HF (d - 48) (omega arith) (omega arith)) (spelled _ h e)
+    word h k o (HMF e) = is_word w 3 _ (time_HMF (d - 48) (omega arith) (omega arith)) (spelled _ h e)
+    word h k o (HMSF e) = is_word w 3 _ (time_HMSF (d - 48) (omega arith) (omega arith)) (spelled _ h e)
 
-    go : (b : Bool) → (leb 49 d && leb d 57) ≡ b → Spelled-in w 3 (cond b (with_digits (d - 48) (place_in fraction_words u)) 0)
-    go true e p =
+    go : (b : Bool) → is_digit_count d ≡ b → Spelled-in w 3 (cond b (option_map (with_digits (d - 48)) (place_in fraction_words u)) None)
+    go true e =
         let q : (leb 49 d ≡ true) × (leb d 57 ≡ true) = (and-eq-true_iff _ _).0 e in
-        word (leb-true 49 d q.0) (leb-true d 57 q.1) (place_in fraction_words u) (fraction_word u) p
-    go false e p = absurd (omega arith)
+        word (leb-true 49 d q.0) (leb-true d 57 q.1) (place_in fraction_words u) (fraction_word u)
+    go false e = λ n p. cc
 
-or_else : (w : List ℕ) (m n : ℕ) → Spelled-in w 3 m → Spelled-in w 3 n → Spelled-in w 3 (first_number m n)
-or_else w m n f g = go (eqb m 0)
-  where
-    go : (b : Bool) → Spelled-in w 3 (cond b n m)
-    go true = g
-    go false = f
+or_else : (w : List ℕ) (m n : Option ℕ) → Spelled-in w 3 m → Spelled-in w 3 n → Spelled-in w 3 (option_or m n)
+or_else w None n f g = g
+or_else w (Some k) n f g = f
 
 -- ---- the law
 
 -- A text that is read as a setting is the word of that setting.
-pub word_spelled : (w : List ℕ) → 0 < (pair_of w).setting → Word w (pair_of w)
-unfolding pair_of
+pub word_spelled : (w : List ℕ) (p : Pair) → pair_of w ≡ Some p → Word w p
 word_spelled w =
-    first-of P _ _ (basic_spelled w)
-    (first-of P _ _ (date_spelled w)
-    (first-of P _ _ (year_spelled w)
-    (first-of P _ _ (or_else w (place_in clock_words w) (fraction_number w) (clock_spelled w) (fraction-spelled w))
-    (first-of P _ _ (zone_spelled w) (interval_spelled w)))))
-  where
-    P : Pair → Type 0
-    P p = 0 < p.setting → Word w p
+    every_pair (Word w) w (basic_spelled w) (date_spelled w) (year_spelled w)
+    (or_else w (place_in clock_words w) (fraction_number w) (clock_spelled w) (fraction-spelled w)) (zone_spelled w) (interval_spelled w)
 
-year_read : (y : YearSetting) → pair_of (bytes (year_word y)) ≡ pair 2 (year_number y)
+year_read : (y : YearSetting) → pair_of (bytes (year_word y)) ≡ Some (pair 2 (year_number y))
 unfolding pair_of place_from eq_list
 year_read YearSetting.Basic = refl
 year_read YearSetting.Proleptic = refl
@@ -199,7 +194,7 @@ year_read YearSetting.L8 = refl
 year_read YearSetting.L9 = refl
 
 -- Each word is read as its setting.
-pub word_read : (w : List ℕ) (p : Pair) → Word w p → pair_of w ≡ p
+pub word_read : (w : List ℕ) (p : Pair) → Word w p → pair_of w ≡ Some p
 unfolding pair_of place_from eq_list fraction_number
 word_read w p basic_date = refl
 word_read w p basic_time = refl
@@ -216,11 +211,11 @@ word_read w p time_H = refl
 word_read w p time_HM = refl
 word_read w p time_HMS = refl
 word_read w p (time_HF n h k) =
-    rw (le-leb 49 (48 + n) (omega arith), le-leb (48 + n) 57 (omega arith), ne_eqb ((48 + n - 48) * 10 + 1) 0 (λ z. omega arith)) (ap (pair 3) (omega arith))
+    rw (le-leb 49 (48 + n) (omega arith), le-leb (48 + n) 57 (omega arith)) (ap (λ (k : ℕ). Some (pair 3 k)) (omega arith))
 word_read w p (time_HMF n h k) =
-    rw (le-leb 49 (48 + n) (omega arith), le-leb (48 + n) 57 (omega arith), ne_eqb ((48 + n - 48) * 10 + 2) 0 (λ z. omega arith)) (ap (pair 3) (omega arith))
+    rw (le-leb 49 (48 + n) (omega arith), le-leb (48 + n) 57 (omega arith)) (ap (λ (k : ℕ). Some (pair 3 k)) (omega arith))
 word_read w p (time_HMSF n h k) =
-    rw (le-leb 49 (48 + n) (omega arith), le-leb (48 + n) 57 (omega arith), ne_eqb ((48 + n - 48) * 10 + 3) 0 (λ z. omega arith)) (ap (pair 3) (omega arith))
+    rw (le-leb 49 (48 + n) (omega arith), le-leb (48 + n) 57 (omega arith)) (ap (λ (k : ℕ). Some (pair 3 k)) (omega arith))
 word_read w p zone_L = refl
 word_read w p zone_Z = refl
 word_read w p zone_LD = refl

@@ -1,107 +1,123 @@
 -- The place of a text among words.
 use mathlib.Core.Path.{◌≡◌, refl, sym, ap, ◌∙◌}
 use mathlib.Core.Bool.{Bool, true, false, ◌&&◌, cond}
-use mathlib.Core.List.{List, [], ◌∷◌, ◌++◌}
-use Prim.Native.Nat.{ℕ, zero, suc, ◌+◌, ◌-◌, ◌<◌, ◌≤◌}
+use mathlib.Core.List.{List, [], ◌∷◌, map}
+use Prim.Native.Nat.{ℕ, zero, suc, ◌+◌, ◌-◌, ◌*◌, ◌<◌, ◌≤◌}
 use Prim.Native.String.{String}
-use native.Mathlib.Numerals.{add-one}
 use native.Mathlib.Omega.{arith}
-use lib.ListN.{length, get_or, take, drop, length-append, length-drop}
-use lib.Dec.{eqb}
-use lib.Seq.{take_at, drop_at, drop-cons, drop-drop, get_or-take}
-use borrow.Author.Tests.{eqb-true, eqb-false}
+use lib.ListN.{length, get_or, take}
+use lib.Dec.{eqb, ltb}
+use lib.Seq.{get_or-take, get_or_at, take_at}
+use borrow.Author.Tests.{eqb-true, eqb-false, ltb-true, ltb-false}
+use Rattle.std.specs.Prelude.{Option, Some, None}
+use Rattle.std.specs.Borrow.{Bor}
+use Rattle.std.specs.List.{IsLastAndRest, position_or_len}
+use Rattle.std.specs.Option.{option_map, option_or}
 use Rattle.octets.specs.Octets.{bytes, eq_list}
-use Rattle.octets.proofs.Laws.Cases.{by_test, both, cond-le}
+use Rattle.octets.proofs.Laws.Cases.{by_test, both}
 use Rattle.octets.proofs.Laws.Octets.{equal}
-use Rattle.lists.specs.Words.{Has, Table, counted, first_number, first_of, fraction_number, pair, pair_of, place_from, place_in}
+use Rattle.lists.specs.Words.{fraction_number, is_digit_count, pair_of, place_from, place_in, time_number, with_digits, with_setting}
 use Rattle.lists.specs.Words.{basic_words, clock_words, date_words, fraction_words, interval_words, year_words, zone_words}
 
--- What a table of m words holds from a place on, behind k of them: words among which the text has the place n.
-pub record Left (t l : List ℕ) (m at k n : ℕ) : Type 0 where
-  pub words : List String
-  pub rest : drop at t ≡ counted words
-  pub count : k + length words ≡ m
-  pub place : n ≡ place_from (suc k) words l
+-- Where a search for the first of the words that is the text ends is the text's place.
+module _ (s : List ℕ) where
+  abbrev pub is_it : Bor (List ℕ) → Bool
+  is_it w = eq_list s w.now
 
--- The first of these words and the others.
-record First (t : List ℕ) (at : ℕ) (ws : List String) : Type 0 where
-  word : String
-  others : List String
-  split : ws ≡ word ∷ others
-  octets : take (at + 1 + get_or t at 0 - (at + 1)) (drop (at + 1) t) ≡ bytes word
-  after : drop (at + 1 + get_or t at 0) t ≡ counted others
-  within : at + 1 + get_or t at 0 ≤ length t
+  abbrev pub octets_of : List (Bor (List ℕ)) → List (List ℕ)
+  octets_of ws = map (λ w. w.now) ws
 
-first : (t : List ℕ) (at : ℕ) (ws : List String) → drop at t ≡ counted ws → 0 < length ws → First t at ws
-first t at [] e h = absurd (omega arith)
-first t at (w ∷ ws) e h =
-    let i : at < length t = omega (arith, simp length-drop at (ap length e)) in
-    let d : get_or t at 0 ∷ drop (suc at) t ≡ length (bytes w) ∷ (bytes w ++ counted ws) = sym (drop-cons t at 0 i) ∙ e in
-    let n : get_or t at 0 ≡ length (bytes w) = cc in
-    let r : drop (at + 1) t ≡ bytes w ++ counted ws = rw add-one (cc) in
-    let m : at + 1 + get_or t at 0 - (at + 1) ≡ get_or t at 0 = omega arith in
-    record {
-      word = w;
-      others = ws;
-      split = refl;
-      octets = rw (m, r) (take_at (bytes w) (counted ws) _ (sym n));
-      after = rw (← drop-drop, r) (drop_at (bytes w) (counted ws) _ (sym n));
-      within = omega (arith, simp (length-drop, length-append) at (ap length r));
-    }
-
--- Before the first word all are left.
-pub left_all : {t l : List ℕ} {m : ℕ} (ws : List String) → Has t m ws → Left t l m 0 0 (place_in ws l)
-left_all ws e = record { words = ws; rest = e.0; count = omega (arith, e.1); place = refl }
-
-module _ {t l : List ℕ} {m at k n : ℕ} (w : Left t l m at k n) where
-  -- Behind the last word the text is none of them.
-  pub left_none : m ≤ k → 0 ≡ n
+  pub place-found : (k : ℕ) (ws : List (Bor (List ℕ))) → position_or_len is_it ws < length ws
+      → place_from k (octets_of ws) s ≡ Some (position_or_len is_it ws + k)
   unfolding place_from
-  left_none h = none_of w.words (omega (arith, w.count)) w.place
-    where
-      none_of : (ws : List String) → length ws ≡ 0 → n ≡ place_from (suc k) ws l → 0 ≡ n
-      none_of [] e p = sym p
-      none_of (w ∷ ws) e p = absurd (omega arith)
+  place-found k [] h = absurd (omega arith)
+  place-found k (w ∷ ws) h = by_test (eq_list s w.now) (λ e.
+      let j : k ≡ 0 + k = omega arith in
+      rw e (ap (λ (n : ℕ). Some n) j)) (λ e.
+      let i : position_or_len is_it (w ∷ ws) ≡ 1 + position_or_len is_it ws = rw e in
+      let j : position_or_len is_it ws + suc k ≡ 1 + position_or_len is_it ws + k = omega arith in
+      let r : place_from (suc k) (octets_of ws) s ≡ Some (position_or_len is_it ws + suc k) = place-found (suc k) ws (omega arith) in
+      rw e (r ∙ ap (λ (n : ℕ). Some n) j))
 
-  module _ (h : k < m) where
-    next : First t at w.words
-    next = first t at w.words w.rest (omega (arith, w.count))
+  pub place_missed : (k : ℕ) (ws : List (Bor (List ℕ))) → length ws ≤ position_or_len is_it ws → place_from k (octets_of ws) s ≡ None
+  unfolding place_from
+  place_missed k [] h = refl
+  place_missed k (w ∷ ws) h = by_test (eq_list s w.now)
+      (λ e. let i : position_or_len is_it (w ∷ ws) ≡ 0 = rw e in absurd (omega arith))
+      (λ e. let i : position_or_len is_it (w ∷ ws) ≡ 1 + position_or_len is_it ws = rw e in rw e (place_missed (suc k) ws (omega arith)))
 
-    -- Before the last word a text that is the next word has this word's place.
-    pub left_hit : eq_list l (take (at + 1 + get_or t at 0 - (at + 1)) (drop (at + 1) t)) ≡ true → k + 1 ≡ n
-    unfolding place_from
-    left_hit e =
-        let q : eq_list l (bytes next.word) ≡ true = rw next.octets at e in
-        add-one k ∙ sym (w.place ∙ rw (next.split, q))
-
-    -- A text that is not the next word is looked for among the words after it.
-    pub left_miss : eq_list l (take (at + 1 + get_or t at 0 - (at + 1)) (drop (at + 1) t)) ≡ false → Left t l m (at + 1 + get_or t at 0) (k + 1) n
-    unfolding place_from
-    left_miss e =
-        let q : eq_list l (bytes next.word) ≡ false = rw next.octets at e in
-        let p : place_from (suc k) (next.word ∷ next.others) l ≡ place_from (suc (k + 1)) next.others l = rw (q, add-one) in
-        record {
-          words = next.others;
-          rest = next.after;
-          count = omega (arith, w.count, ap (λ (ws : List String). length ws) next.split);
-          place = w.place ∙ ap (λ (ws : List String). place_from (suc k) ws l) next.split ∙ p;
-        }
-
--- The next word stands within the table.
-pub next_within : {t l : List ℕ} {m at k : ℕ} → Table t m → ((ws : List String) → Has t m ws → Left t l m at k (place_in ws l)) → k < m →
-    at + 1 + get_or t at 0 ≤ length t
-next_within p w h = (next (w p.0 p.1) h).within
+  -- The place of a text is one more than the number of words before it.
+  pub place-position : (ws : List (Bor (List ℕ))) (r : Option ℕ)
+      → r ≡ cond (ltb (position_or_len is_it ws) (length ws)) (Some (position_or_len is_it ws)) None
+      → place_from 1 (octets_of ws) s ≡ option_map (λ i. i + 1) r
+  place-position ws r e = by_test (ltb (position_or_len is_it ws) (length ws))
+      (λ t. place-found 1 ws (ltb-true _ _ t) ∙ sym (rw (e, t)))
+      (λ t. place_missed 1 ws (ltb-false _ _ t) ∙ sym (rw (e, t)))
 
 -- No place lies behind the words.
-place-le : (k : ℕ) (ws : List String) (l : List ℕ) → place_from (suc k) ws l ≤ k + length ws
+place-le : (k n : ℕ) (ws : List (List ℕ)) (l : List ℕ) → place_from (suc k) ws l ≡ Some n → n ≤ k + length ws
 unfolding place_from
-place-le k [] l = omega arith
-place-le k (w ∷ ws) l =
-    cond-le (eq_list l (bytes w)) (suc k) (place_from (suc (suc k)) ws l) (k + suc (length ws)) (omega arith) (omega (arith, place-le (suc k) ws l))
+place-le k n [] l e = cc
+place-le k n (w ∷ ws) l e = go (eq_list l w) e (place-le (suc k) n ws l)
+  where
+    go : (b : Bool) → cond b (Some (suc k)) (place_from (suc (suc k)) ws l) ≡ Some n
+        → (place_from (suc (suc k)) ws l ≡ Some n → n ≤ suc k + length ws) → n ≤ k + suc (length ws)
+    go true e f = let q : suc k ≡ n = cc in omega arith
+    go false e f = omega (arith, f e)
+
+-- Words are counted from 1.
+place-some : (k n : ℕ) (ws : List (List ℕ)) (l : List ℕ) → place_from (suc k) ws l ≡ Some n → 0 < n
+unfolding place_from
+place-some k n [] l e = cc
+place-some k n (w ∷ ws) l e = go (eq_list l w) e (place-some (suc k) n ws l)
+  where
+    go : (b : Bool) → cond b (Some (suc k)) (place_from (suc (suc k)) ws l) ≡ Some n → (place_from (suc (suc k)) ws l ≡ Some n → 0 < n) → 0 < n
+    go true e f = let q : suc k ≡ n = cc in omega arith
+    go false e f = f e
+
+-- A place is not 0.
+pub some_place : (ws : List String) (l : List ℕ) (n : ℕ) → place_in ws l ≡ Some n → 0 < n
+some_place ws l n e = place-some 0 n (map bytes ws) l e
+
+-- The number of a Time setting is not 0.
+pub some_time : (l : List ℕ) (n : ℕ) → time_number l ≡ Some n → 0 < n
+unfolding fraction_number
+some_time l n = first_of (place_in clock_words l) refl
+  where
+    d : ℕ
+    d = get_or l (length l - 1) 0
+
+    digits : (o : Option ℕ) → ((k : ℕ) → o ≡ Some k → 0 < k) → option_map (with_digits (d - 48)) o ≡ Some n → 0 < n
+    digits None f e = cc
+    digits (Some k) f e = let q : (d - 48) * 10 + k ≡ n = cc in omega (arith, f k refl)
+
+    go : (b : Bool) → cond b (option_map (with_digits (d - 48)) (place_in fraction_words (take (length l - 1) l))) None ≡ Some n → 0 < n
+    go true e = digits (place_in fraction_words (take (length l - 1) l)) (some_place fraction_words (take (length l - 1) l)) e
+    go false e = cc
+
+    first_of : (o : Option ℕ) → place_in clock_words l ≡ o → option_or o (fraction_number l) ≡ Some n → 0 < n
+    first_of None h e = go (is_digit_count d) e
+    first_of (Some k) h e = let q : k ≡ n = cc in omega (arith, some_place clock_words l k h)
 
 -- A place is at most the number of words.
-pub place-in : (ws : List String) (l : List ℕ) {n : ℕ} → n ≡ place_in ws l → n ≤ length ws
-place-in ws l e = rw e (omega (arith, place-le 0 ws l))
+pub place-in : (ws : List String) (l : List ℕ) {n : ℕ} → place_in ws l ≡ Some n → n ≤ length (map bytes ws)
+place-in ws l {n} e = omega (arith, place-le 0 n (map bytes ws) l e)
+
+-- The number of a Time setting with a fraction, of a text with its last octet apart.
+pub fraction_at : (l w : List ℕ) (d : ℕ) → IsLastAndRest l d w
+    → fraction_number l ≡ cond (is_digit_count d) (option_map (with_digits (d - 48)) (place_in fraction_words w)) None
+unfolding fraction_number
+fraction_at l w d h =
+    let n : length w ≡ length l - 1 = omega (arith, h.1) in
+    let a : get_or l (length l - 1) 0 ≡ d = rw (← n, h.0) (get_or_at w d [] 0 (length w) refl) in
+    let b : take (length l - 1) l ≡ w = rw (← n, h.0) (take_at w (d ∷ []) (length w) refl) in
+    rw (a, b)
+
+-- No text without an octet is a Time setting with a fraction.
+pub no_fraction : (l : List ℕ) → length l ≡ 0 → None ≡ fraction_number l
+unfolding fraction_number
+no_fraction [] e = refl
+no_fraction (x ∷ l) e = absurd (omega arith)
 
 -- Whether all words begin with an octet.
 abbrev all_begin : ℕ → List String → Bool
@@ -109,7 +125,7 @@ all_begin b [] = true
 all_begin b (w ∷ ws) = eqb (get_or (bytes w) 0 0) b && all_begin b ws
 
 -- A text that begins with another octet is none of such words.
-other_words : (b k : ℕ) (ws : List String) (l : List ℕ) → all_begin b ws ≡ true → (get_or l 0 0 ≡ b → ⊥) → place_from k ws l ≡ 0
+other_words : (b k : ℕ) (ws : List String) (l : List ℕ) → all_begin b ws ≡ true → (get_or l 0 0 ≡ b → ⊥) → place_from k (map bytes ws) l ≡ None
 unfolding place_from
 other_words b k [] l t n = refl
 other_words b k (w ∷ ws) l t n = by_test (eq_list l (bytes w)) (λ e. absurd (n (begins e))) (λ e. rw e (other_words b (suc k) ws l p.1 n))
@@ -125,12 +141,12 @@ first_taken : (n b : ℕ) (l : List ℕ) → get_or (take n l) 0 0 ≡ suc b →
 first_taken zero b l e = absurd (omega arith)
 first_taken (suc n) b l e = sym (get_or-take (suc n) l 0 0 (omega arith)) ∙ e
 
-either : (t : Bool) (n : ℕ) → cond t n n ≡ n
-either true n = refl
-either false n = refl
+either : (t : Bool) → ◌≡◌ {A = Option ℕ} (cond t None None) None
+either true = refl
+either false = refl
 
 -- A text that does not begin with T is no Time setting.
-no-time : (l : List ℕ) → (get_or l 0 0 ≡ 84 → ⊥) → first_number (place_in clock_words l) (fraction_number l) ≡ 0
+no-time : (l : List ℕ) → (get_or l 0 0 ≡ 84 → ⊥) → time_number l ≡ None
 unfolding fraction_number
 no-time l n =
     rw (
@@ -139,11 +155,22 @@ no-time l n =
       either,
     )
 
--- A number where the text begins with an octet, otherwise 0.
-abbrev where_first : List ℕ → ℕ → ℕ → ℕ
-where_first l b n = cond (eqb (get_or l 0 0) b) n 0
+-- With none beside it an option is itself.
+pub or_none : {A : Type 0} (o : Option A) → option_or o None ≡ o
+or_none None = refl
+or_none (Some x) = refl
 
-only_first : (l : List ℕ) (b n : ℕ) → ((get_or l 0 0 ≡ b → ⊥) → n ≡ 0) → where_first l b n ≡ n
+-- No text without an octet is a pair.
+pub no_pair : (l : List ℕ) → length l ≡ 0 → None ≡ pair_of l
+unfolding pair_of fraction_number place_from eq_list
+no_pair [] e = refl
+no_pair (x ∷ l) e = absurd (omega arith)
+
+-- A number where the text begins with an octet, otherwise none.
+abbrev where_first : List ℕ → ℕ → Option ℕ → Option ℕ
+where_first l b n = cond (eqb (get_or l 0 0) b) n None
+
+only_first : (l : List ℕ) (b : ℕ) (n : Option ℕ) → ((get_or l 0 0 ≡ b → ⊥) → n ≡ None) → where_first l b n ≡ n
 only_first l b n h = by_test (eqb (get_or l 0 0) b) (λ e. rw e) (λ e. rw e (sym (h (eqb-false _ _ e))))
 
 -- A place among the words of Interval-type is one of a text that begins with I.
@@ -152,12 +179,12 @@ interval_first l = only_first l 73 _ (other_words 73 1 interval_words l refl)
 
 -- The first octet of a text tells the only table that it can have a place in.
 pub only_table : (l : List ℕ) → pair_of l ≡
-    first_of (pair 0 (where_first l 66 (place_in basic_words l)))
-    (first_of (pair 1 (where_first l 68 (place_in date_words l)))
-    (first_of (pair 2 (where_first l 89 (place_in year_words l)))
-    (first_of (pair 3 (where_first l 84 (first_number (place_in clock_words l) (fraction_number l))))
-    (first_of (pair 4 (where_first l 76 (place_in zone_words l)))
-    (pair 5 (where_first l 73 (place_in interval_words l)))))))
+    option_or (with_setting 0 (where_first l 66 (place_in basic_words l)))
+    (option_or (with_setting 1 (where_first l 68 (place_in date_words l)))
+    (option_or (with_setting 2 (where_first l 89 (place_in year_words l)))
+    (option_or (with_setting 3 (where_first l 84 (time_number l)))
+    (option_or (with_setting 4 (where_first l 76 (place_in zone_words l)))
+    (with_setting 5 (where_first l 73 (place_in interval_words l)))))))
 unfolding pair_of
 only_table l =
     rw (

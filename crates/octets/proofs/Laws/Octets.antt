@@ -1,13 +1,14 @@
 -- Equal lists of octets.
 use mathlib.Core.Path.{◌≡◌, refl, ap}
+use Rattle.std.specs.Prelude.{◌==◌, zip}
+use Rattle.std.specs.List.{list_all}
+use native.Mathlib.Omega.{arith}
 use mathlib.Core.Bool.{true, false, and-false, and-eq-true_iff, false≢true}
 use mathlib.Core.List.{List, [], ◌∷◌}
-use Prim.Native.Nat.{ℕ, suc, ◌+◌, ◌<◌}
-use native.Mathlib.Numerals.{add-one}
+use Prim.Native.Nat.{ℕ, suc}
 use lib.Dec.{eqb}
-use lib.ListN.{length, get_or, drop}
-use lib.Seq.{drop-cons}
-use borrow.Author.Tests.{eq-eqb, ne_eqb, eqb-true}
+use lib.ListN.{length}
+use borrow.Author.Tests.{eq-eqb, eqb-true}
 use Rattle.octets.specs.Octets.{eq_list}
 
 -- Lists that test as equal are equal.
@@ -31,6 +32,14 @@ self (x ∷ l) = rw (eq-eqb x x refl, self l)
 pub equal_test : (a b : List ℕ) → a ≡ b → eq_list a b ≡ true
 equal_test a b e = rw e (self b)
 
+-- Lists of one length whose octets are the same in pairs are the same.
+pub all-same : (a b : List ℕ) → length a ≡ length b → list_all (λ p. p.0 == p.1) (zip a b) ≡ eq_list a b
+unfolding eq_list
+all-same [] [] e = refl
+all-same [] (y ∷ b) e = absurd (let z : ◌≡◌ {A = ℕ} 0 1 = cc in omega arith)
+all-same (x ∷ a) [] e = absurd (let z : ◌≡◌ {A = ℕ} 0 1 = cc in omega arith)
+all-same (x ∷ a) (y ∷ b) e = rw (all-same a b (omega arith))
+
 -- Lists of two lengths differ.
 pub unequal_length : (a b : List ℕ) → (length a ≡ length b → ⊥) → eq_list a b ≡ false
 unfolding eq_list
@@ -38,14 +47,3 @@ unequal_length [] [] n = absurd (n refl)
 unequal_length [] (y ∷ b) n = refl
 unequal_length (x ∷ a) [] n = refl
 unequal_length (x ∷ a) (y ∷ b) n = simp (unequal_length a b (λ e. n (ap suc e)), and-false)
-
-module _ (a b : List ℕ) (i : ℕ) (h : i < length a) (k : i < length b) where
-  -- An equal octet leaves the rest to decide.
-  pub equal_step : get_or a i 0 ≡ get_or b i 0 → eq_list (drop i a) (drop i b) ≡ eq_list (drop (i + 1) a) (drop (i + 1) b)
-  unfolding eq_list
-  equal_step e = rw (add-one, drop-cons a i 0 h, drop-cons b i 0 k, eq-eqb _ _ e)
-
-  -- An octet that differs decides.
-  pub unequal_here : (get_or a i 0 ≡ get_or b i 0 → ⊥) → eq_list (drop i a) (drop i b) ≡ false
-  unfolding eq_list
-  unequal_here e = rw (drop-cons a i 0 h, drop-cons b i 0 k, ne_eqb _ _ e)

@@ -1,15 +1,17 @@
 -- The pieces of a text, one at a time.
 use mathlib.Core.Path.{◌≡◌, refl, ap, ◌∙◌}
-use mathlib.Core.Bool.{Bool, true, false}
+use Rattle.std.specs.Prelude.{Option, Some, None, nat_eq, unwrap_or}
+use Rattle.std.specs.List.{position_or_len}
+use mathlib.Core.Bool.{Bool, true, false, not, cond}
 use mathlib.Core.List.{List, [], ◌∷◌}
 use Prim.Native.Nat.{ℕ, suc, ◌+◌, ◌-◌, ◌<◌, ◌≤◌}
 use native.Mathlib.Nat.{suc-add}
 use native.Mathlib.Numerals.{add-one}
 use native.Mathlib.Omega.{arith}
-use lib.Dec.{eqb}
+use lib.Dec.{eqb, ltb}
 use lib.ListN.{length, get_or, take, drop, drop_of_length-le, length-drop}
 use lib.Seq.{drop-cons}
-use borrow.Author.Tests.{eq-eqb, ne_eqb}
+use borrow.Author.Tests.{eq-eqb, ne_eqb, ltb-false}
 use Rattle.octets.specs.Pieces.{split_on, span_to}
 use Rattle.octets.proofs.Laws.Cases.{cond-le}
 
@@ -29,25 +31,27 @@ module _ (c : ℕ) (s : List ℕ) (i : ℕ) where
   unfolding span_to
   span_end h = rw (drop_of_length-le s h)
 
--- Four octets more stand before the octet c where none of the next four is it.
-pub span_four : (c : ℕ) (s : List ℕ) (i : ℕ) → i + 3 < length s → (get_or s i 0 ≡ c → ⊥) → (get_or s (i + 1) 0 ≡ c → ⊥) →
-    (get_or s (i + 2) 0 ≡ c → ⊥) →
-    (get_or s (i + 3) 0 ≡ c → ⊥) →
-    span_to c (drop i s) ≡ 4 + span_to c (drop (i + 4) s)
-span_four c s i h e f g k =
-    let l = span_miss c s i (omega arith) e in
-    let m = next (i + 1) (i + 2) (omega arith) (omega arith) f in
-    let n = next (i + 2) (i + 3) (omega arith) (omega arith) g in
-    omega (arith, l, m, n, next (i + 3) (i + 4) (omega arith) h k)
-  where
-    next : (m n : ℕ) → m + 1 ≡ n → m < length s → (get_or s m 0 ≡ c → ⊥) → span_to c (drop m s) ≡ suc (span_to c (drop n s))
-    next m n e h f = span_miss c s m h f ∙ ap (λ (o : ℕ). suc (span_to c (drop o s))) e
-
 -- No more octets stand before the octet c than there are.
 pub span_le : (c : ℕ) (l : List ℕ) → span_to c l ≤ length l
 unfolding span_to
 span_le c [] = omega arith
 span_le c (x ∷ l) = cond-le (eqb x c) 0 (suc (span_to c l)) (suc (length l)) (omega arith) (omega (arith, span_le c l))
+
+-- Before the first c stand as many octets as a search passes over.
+span_is : (c : ℕ) (l : List ℕ) → position_or_len (λ x. nat_eq x c) l ≡ span_to c l
+unfolding span_to
+span_is c [] = refl
+span_is c (x ∷ l) = rw (span_is c l) (turned (eqb x c)) where
+  turned : (b : Bool) → cond (not b) (1 + span_to c l) 0 ≡ cond b 0 (suc (span_to c l))
+  turned true = refl
+  turned false = omega arith
+
+-- The place that a search finds, or the end.
+pub place_found : (c : ℕ) (l : List ℕ) (r : Option ℕ) → (let n = position_or_len (λ x. nat_eq x c) l in r ≡ cond (ltb n (length l)) (Some n) None) → unwrap_or r (length l) ≡ span_to c l
+place_found c l r e = go (ltb (span_to c l) (length l)) refl (rw (span_is c l) at e) where
+  go : (b : Bool) → ltb (span_to c l) (length l) ≡ b → r ≡ cond b (Some (span_to c l)) None → unwrap_or r (length l) ≡ span_to c l
+  go true h e = rw e
+  go false h e = rw e (omega (arith, ltb-false _ _ h, span_le c l))
 
 one_case : (c x : ℕ) (l : List ℕ) (t : Bool) → eqb x c ≡ t → (span_to c l ≡ length l → split_on c l ≡ l ∷ []) →
     span_to c (x ∷ l) ≡ suc (length l) →

@@ -1,12 +1,13 @@
 -- Octets stored one after another.
 use mathlib.Core.Path.{◌≡◌, refl, ap, ◌∙◌}
-use mathlib.Core.List.{List, [], ◌∷◌, ◌++◌}
-use Prim.Native.Nat.{ℕ, suc, ◌+◌, ◌<◌, ◌≤◌}
+use mathlib.Core.List.{List, [], ◌∷◌, ◌++◌, append_assoc}
+use Prim.Native.Nat.{ℕ, suc, ◌+◌, ◌-◌, ◌<◌, ◌≤◌}
 use native.Mathlib.Nat.{add-zero}
 use native.Mathlib.Numerals.{add-one}
 use native.Mathlib.Omega.{arith}
 use lib.ListN.{length, length-append, drop, get_or, set}
-use lib.Seq.{drop-cons, sets, sets-eq, set_comm}
+use lib.Seq.{drop-cons, drop-drop, sets, sets-eq, set_comm}
+use borrow.Rule.Slice.PartMut.{put_mid}
 use borrow.Author.Tests.{le-leb, lt-leb}
 use Rattle.octets.specs.Stores.{StoredText, place_after, room_after}
 
@@ -50,11 +51,6 @@ put_rest h k =
 pub sets-front : (l t : List ℕ) → length t ≤ length l → sets l 0 t ≡ t ++ drop (length t) l
 sets-front l t h = let z : 0 + length t ≡ length t = omega arith in rw (sets-eq t l 0 (omega arith), z)
 
--- an octet is stored before the rest
-pub octet_put : (room octets : List ℕ) (place i : ℕ) → i < length octets →
-    sets room place (drop i octets) ≡ sets (set room place (get_or octets i 0)) (place + 1) (drop (i + 1) octets)
-octet_put room octets place i h = rw (add-one place, add-one i, drop-cons octets i 0 h)
-
 module _ {room octets m : List ℕ} {at r : ℕ} where
   -- Octets that have their place in the room are stored there.
   pub put_there : (r ≡ place_after room at octets) × (m ≡ room_after room at octets) → at + length octets ≤ length room → StoredText room m at octets r
@@ -72,6 +68,13 @@ pub put_nothing : (room octets : List ℕ) (at : ℕ) → length room < at + len
     → record { value : at ≡ place_after room at octets; room_after : room ≡ room_after room at octets }
 unfolding place_after room_after
 put_nothing room octets at h = let t = lt-leb (at + length octets) (length room) h in record { value = rw t; room_after = rw t }
+
+-- Octets that are copied over a part of a room are stored there.
+pub copied : (room octets : List ℕ) (at : ℕ) → at + length octets ≤ length room
+    → StoredText room (put_mid at (at + length octets - at) room octets) at octets (at + length octets)
+copied room octets at h =
+    let e : at + length octets - at ≡ length octets = omega arith in
+    record { text = rw (sets-eq octets room at h, e, drop-drop (length octets) at room) (simp append_assoc); end = refl }
 
 -- octets that were stored at the front of a room that has place for them
 pub put_front : (room octets : List ℕ) {m : List ℕ} → length octets ≤ length room → m ≡ room_after room 0 octets → m ≡ octets ++ drop (length octets) room

@@ -9,23 +9,23 @@ use lib.Dec.{eqb, ltb, leb-suc-suc, eqb-zero-suc, eqb-suc-suc}
 use lib.IntN.{pos}
 use lib.ListN.{length, take, drop, replicate, get_or, drop_of_length-le}
 use lib.Seq.{drop-cons, take_at}
+use mir.Val.{bool_byte}
 use borrow.Author.Tests.{lt-ltb, le-ltb, le-leb, lt-leb, ne_eqb}
 use Rattle.texts.specs.declared.parts.Fraction.{Fraction}
 use Rattle.answers.specs.Counts.{octets_for}
-use Rattle.answers.specs.declared.counts.Bits.{Bits}
-use Rattle.fields.specs.Bits.{BitString, bits_of, number_in as number_of, octets_of}
+use Rattle.fields.specs.Bits.{BitString, bits_of, octets_of}
 use Rattle.fields.specs.Fields.{Field, Ranged, Free, width, binary_digits, field_bits, layout, bit_count}
 use Rattle.fields.proofs.Laws.Fields.{layout-append, length-layout}
-use Rattle.fields.proofs.Laws.Bits.{length-bits, length_octets}
+use Rattle.fields.proofs.Laws.Bits.{length_octets}
 use Rattle.durations.specs.declared.Duration.{Duration}
 use Rattle.durations.specs.Parts.{Part, absent, present, no_fraction, is_present, number_in, part_at}
 use Rattle.durations.specs.Durations.{numbers_of, shown, spellable, fraction_of, parts_of}
 use Rattle.durations.specs.Fields.{long_number, extended, roots, presence, presences, number_fields, fraction_part, duration_fields}
 use Rattle.durations.proofs.Laws.Made.{shown-length}
 use Rattle.durations.proofs.Laws.Widths.{duration_most}
-use Rattle.packing.specs.declared.duration.PackedDuration.{PackedDuration}
-use Rattle.packing.specs.Durations.{in_duration_buffer, packed_bits, packed_duration, is_there, component_fields, optionality}
-use Rattle.packing.proofs.Laws.Short.{in_octets, word-before, word_before}
+use Rattle.packing.specs.declared.writing.Packed.{Packed}
+use Rattle.packing.specs.Packed.{in_buffer}
+use Rattle.packing.specs.Durations.{packed_duration, is_there, component_fields, optionality}
 
 -- ---- a number of an extensible range
 
@@ -42,17 +42,11 @@ module _ (lowest r n : ℕ) where
   unfolding extended long_number
   number_above h k = simp (le-leb lowest n h, le-ltb (n - lowest) r k)
 
--- The widths of the components' ranges.
-pub root_widths : (i : ℕ) → i < 7 → let w = get_or {A = ℕ} (5 ∷ 4 ∷ 6 ∷ 5 ∷ 5 ∷ 6 ∷ 6 ∷ []) i 0 in (w ≤ 10) × (w ≡ width (get_or roots i 0))
-unfolding width binary_digits
-root_widths zero h = (omega arith, refl)
-root_widths (suc zero) h = (omega arith, refl)
-root_widths (suc (suc zero)) h = (omega arith, refl)
-root_widths (suc (suc (suc zero))) h = (omega arith, refl)
-root_widths (suc (suc (suc (suc zero)))) h = (omega arith, refl)
-root_widths (suc (suc (suc (suc (suc zero))))) h = (omega arith, refl)
-root_widths (suc (suc (suc (suc (suc (suc zero)))))) h = (omega arith, refl)
-root_widths (suc (suc (suc (suc (suc (suc (suc i))))))) h = absurd (omega arith)
+-- A presence bit is the number that stands for it.
+pub presence-bit : (b : Bool) → bits_of 1 (bool_byte b) ≡ field_bits (presence b)
+unfolding field_bits width binary_digits
+presence-bit true = refl
+presence-bit false = refl
 
 -- ---- the component at a place
 
@@ -212,36 +206,13 @@ duration-bits d e =
     let p = presence (ltb 0 d.digits) in
     rw (e, ← layout-append ns fs, ← layout-append (presences (parts_of d) ++ (p ∷ [])) (ns ++ fs), append_assoc (presences (parts_of d)) (p ∷ []) (ns ++ fs))
 
-pub packed-duration : (d : Duration) (o : List ℕ) (b : Bits) (n : ℕ)
-    → o ≡ octets_of (layout (duration_fields d)) ++ drop (length (octets_of (layout (duration_fields d)))) (replicate 48 0)
-    → b ≡ record { count = n } → n ≡ length (layout (duration_fields d)) → ◌≡◌ {A = PackedDuration} (record { octets = o; bits = b }) (packed_duration d)
-unfolding in_duration_buffer packed_duration
-packed-duration d o b n p q e =
-    let k : b ≡ record { count = bit_count (duration_fields d) } = q ∙ ap (λ (n : ℕ). record { count = n }) (e ∙ length-layout (duration_fields d)) in
-    λ i. record { octets = p i; bits = k i }
-
-pub packed-fields : (d : Duration) {bs : BitString} → bs ≡ layout (duration_fields d) → packed_bits bs ≡ packed_duration d
-unfolding packed_bits packed_duration
-packed-fields d e =
-    ap packed_bits e
-    ∙ (λ i. record { octets = in_duration_buffer (octets_of (layout (duration_fields d))); bits = record { count = length-layout (duration_fields d) i } })
-
--- The octets of a word are those of a group.
-pub short-packed : (w v n : ℕ) → w ≤ 56 → n ≡ number_of 56 (bits_of w v)
-    → ◌≡◌ {A = PackedDuration} (record { octets = word_before (replicate 41 0) n; bits = record { count = w } }) (packed_bits (bits_of w v))
-unfolding packed_bits in_duration_buffer
-short-packed w v n h e =
-    let l : length (bits_of w v) ≤ 56 = rw (length-bits w v) h in
-    let o = sym (in_octets 48 (bits_of w v) l (omega arith) ∙ word-before (bits_of w v) n 41 l e) in
-    λ i. record { octets = o i; bits = record { count = sym (length-bits w v) i } }
-
 -- ---- the octets in the buffer
 
 length-duration : (d : Duration) → length (octets_of (layout (duration_fields d))) ≡ (octets_for (record { count = bit_count (duration_fields d) })).count
 length-duration d =
     length_octets (layout (duration_fields d)) ∙ ap (λ (n : ℕ). (octets_for (record { count = n })).count) (length-layout (duration_fields d))
 
-module _ (d : Duration) {packed : PackedDuration} (e : packed ≡ packed_duration d) where
+module _ (d : Duration) {packed : Packed 48} (e : packed ≡ packed_duration d) where
   -- The bit count of a packed duration is that of its fields.
   pub duration-count : packed.bits ≡ record { count = bit_count (duration_fields d) }
   unfolding packed_duration
@@ -254,7 +225,7 @@ module _ (d : Duration) {packed : PackedDuration} (e : packed ≡ packed_duratio
 
   -- .. and are the octets of its fields.
   pub duration-front : {n : ℕ} → n ≡ (octets_for packed.bits).count → take n packed.octets ≡ octets_of (layout (duration_fields d))
-  unfolding packed_duration in_duration_buffer
+  unfolding packed_duration in_buffer
   duration-front h =
       rw (h, duration-count, e)
       (take_at (octets_of (layout (duration_fields d))) (drop (length (octets_of (layout (duration_fields d)))) (replicate 48 0))

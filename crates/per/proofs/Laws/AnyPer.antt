@@ -1,11 +1,11 @@
 -- Unaligned PER of points and durations meets what is asked of a kind.
+use Rattle.std.specs.Prelude.{Option, Some, None}
 use mathlib.Core.Path.{◌≡◌, refl, ap, sym, ◌∙◌}
 use mathlib.Core.Bool.{Bool, true, cond, false≢true}
 use mathlib.Core.List.{List}
-use mathlib.Core.Option.{Option, some, none}
 use Prim.Native.Nat.{ℕ, ◌≤◌}
 use native.Mathlib.Omega.{arith}
-use lib.ListN.{length, take}
+use lib.ListN.{length}
 use Rattle.octets.specs.Octets.{eq_list}
 use Rattle.answers.specs.Counts.{octets_for}
 use Rattle.answers.specs.Outcomes.{Answer, done, refused}
@@ -35,14 +35,14 @@ use Rattle.kinds.specs.Coding.{compared, decoded, encoded, judged_as, judged_oct
 use Rattle.kinds.specs.Lawful.{Holds, Lawful}
 use Rattle.kinds.proofs.Laws.Coding as Coding
 use Rattle.packing.specs.Durations.{packed_duration}
-use Rattle.packing.specs.declared.duration.PackedDuration.{PackedDuration}
-use Rattle.packing.proofs.Laws.Durations.{duration-count, duration-front}
+use Rattle.packing.proofs.Laws.Durations.{duration-count, duration-front, duration-short as buffer_most}
 use Rattle.any_values.specs.Texts.{as_duration, as_point, canonical, form_of}
 use Rattle.any_values.specs.declared.AnyForm.{AnyForm}
 use Rattle.any_values.specs.declared.AnyValue.{AnyValue}
 use Rattle.any_values.proofs.Laws.Encodings.{decoded-short, text-read}
 use Rattle.any_values.proofs.Laws.Points.{Extends, point-decoded, point-encoded}
 use Rattle.per.specs.AnyPer.{count_of, encoding_of, fields_of, in_per, per, per_decoded, per_encoded, read_octets}
+use Rattle.per.specs.Packed.{front_of}
 use Rattle.per.specs.Per as Points
 use Rattle.per.proofs.Laws.Per as PointLaws
 
@@ -62,7 +62,7 @@ point-decodes t octets = point-decoded in_per Points.in_per points_in t octets
 
 -- ---- a lawful kind
 
-octets_read : (t : AnyType) (v : AnyValue) → Holds per t v → read_octets (year_row_of_type t) (form_of t) (encoding_of (year_row_of_type t) v) ≡ some v
+octets_read : (t : AnyType) (v : AnyValue) → Holds per t v → read_octets (year_row_of_type t) (form_of t) (encoding_of (year_row_of_type t) v) ≡ Some v
 unfolding encoding_of Points.encoding_of
 octets_read (AnyType.Point t) (AnyValue.Point v) h =
     ap as_point ((PointLaws.per_lawful).octets_own t v (record { formed = h.formed; real = h.real; inside = h.inside }))
@@ -118,15 +118,15 @@ per-decoded-short = decoded-short in_per
 
 -- What encoding the text of a duration answers, by what is read.
 abbrev pub encoded_duration : Option Duration → Answer
-encoded_duration (some d) = done (encoding_of YearRow.Year (AnyValue.Duration d)) (count_of YearRow.Year (AnyValue.Duration d))
-encoded_duration none = refused Refusal.Form
+encoded_duration (Some d) = done (encoding_of YearRow.Year (AnyValue.Duration d)) (count_of YearRow.Year (AnyValue.Duration d))
+encoded_duration None = refused Refusal.Form
 
 -- What decoding the octets of a duration answers, by what is read.
 abbrev pub decoded_duration : List ℕ → Option Duration → Answer
-decoded_duration octets (some d) =
+decoded_duration octets (Some d) =
     cond (eq_list octets (encoding_of YearRow.Year (AnyValue.Duration d))) (done (duration_text d) (count_of YearRow.Year (AnyValue.Duration d)))
     (refused Refusal.Encoding)
-decoded_duration octets none = refused Refusal.Form
+decoded_duration octets None = refused Refusal.Form
 
 -- Of a duration that is read there is no refusal 4 and none 5.
 pub duration-encodes : (t : AnyType) → OfDurations t → (text : List ℕ) → per_encoded t text ≡ encoded_duration (read_duration text)
@@ -134,26 +134,26 @@ unfolding encoded judged_text judged_as
 duration-encodes t named text = go (read_duration text) refl
   where
     go : (o : Option Duration) → read_duration text ≡ o → judged_text per AnyType.Duration (as_duration o) ≡ encoded_duration o
-    go none r = refl
-    go (some d) r = rw (read_only text d r).exists
+    go None r = refl
+    go (Some d) r = rw (read_only text d r).exists
 duration-encodes t as_listed text = go (read_duration text) refl
   where
     go : (o : Option Duration) → read_duration text ≡ o → judged_text per AnyType.ListedDuration (as_duration o) ≡ encoded_duration o
-    go none r = refl
-    go (some d) r = rw (read_only text d r).exists
+    go None r = refl
+    go (Some d) r = rw (read_only text d r).exists
 
 pub duration-decodes : (t : AnyType) → OfDurations t → (octets : List ℕ) → per_decoded t octets ≡ decoded_duration octets (duration_in_octets octets)
 unfolding decoded judged_octets judged_as compared
 duration-decodes t named octets = go (duration_in_octets octets) refl
   where
     go : (o : Option Duration) → duration_in_octets octets ≡ o → judged_octets per AnyType.Duration octets (as_duration o) ≡ decoded_duration octets o
-    go none r = refl
-    go (some d) r = rw (octets_exist octets d r)
+    go None r = refl
+    go (Some d) r = rw (octets_exist octets d r)
 duration-decodes t as_listed octets = go (duration_in_octets octets) refl
   where
     go : (o : Option Duration) → duration_in_octets octets ≡ o → judged_octets per AnyType.ListedDuration octets (as_duration o) ≡ decoded_duration octets o
-    go none r = refl
-    go (some d) r = rw (octets_exist octets d r)
+    go None r = refl
+    go (Some d) r = rw (octets_exist octets d r)
 
 -- The list of durations is encoded and decoded as DURATION is.
 pub either_encodes : (listed : Bool) (text : List ℕ) → per_encoded (duration_type listed) text ≡ per_encoded AnyType.Duration text
@@ -164,13 +164,27 @@ either_decodes listed octets = duration-decodes (duration_type listed) (duration
 
 -- ---- the octets of a duration in the buffer of `packing`
 
-module _ (d : Duration) {packed : PackedDuration} (e : packed ≡ packed_duration d) where
+module _ (d : Duration) where
   -- The bit count of a packed duration is that of its encoding.
-  pub duration-bits : packed.bits ≡ count_of YearRow.Year (AnyValue.Duration d)
+  pub duration-bits : (packed_duration d).bits ≡ count_of YearRow.Year (AnyValue.Duration d)
   unfolding count_of
-  duration-bits = duration-count d e
+  duration-bits = duration-count d refl
+
+  -- The octets that carry its bits lie in the buffer.
+  pub duration_carried : (octets_for (packed_duration d).bits).count ≤ 48
+  duration_carried = buffer_most d refl refl
 
   -- The octets that carry its bits are its encoding.
-  pub duration_octets : {n : ℕ} → n ≡ (octets_for packed.bits).count → take n packed.octets ≡ encoding_of YearRow.Year (AnyValue.Duration d)
+  pub duration_octets : front_of (packed_duration d) ≡ encoding_of YearRow.Year (AnyValue.Duration d)
   unfolding encoding_of
-  duration_octets {n} h = duration-front d e h
+  duration_octets = duration-front d refl refl
+
+-- What encoding and decoding a duration answer.
+pub encodes : (text : List ℕ) → per_encoded AnyType.Duration text ≡ encoded_duration (read_duration text)
+encodes = duration-encodes AnyType.Duration named
+
+pub decodes : (octets : List ℕ) → per_decoded AnyType.Duration octets ≡ decoded_duration octets (duration_in_octets octets)
+decodes = duration-decodes AnyType.Duration named
+
+-- What encoding and decoding answer, for the goals of the code.
+pub ruleset coding = (encodes, decodes, octets_exist, duration-bits, duration_carried, duration_octets)

@@ -51,9 +51,9 @@ digits_next w m k = digits_case w m k (9 - w) refl
 pub digits_none : (w m k : ℕ) → m ≡ 0 → w + size_in (9 - w) m ≡ k → w ≡ k
 digits_none w m k z c = let a : w + size_in (9 - w) 0 ≡ k = rw z at c in omega (arith, size_zero (9 - w))
 
-pub digits_all : (w m k : ℕ) → w ≤ 9 → 9 ≤ w → w + size_in (9 - w) m ≡ k → w ≡ k
+pub digits_all : (w m k : ℕ) → w ≡ 9 → w + size_in (9 - w) m ≡ k → 9 ≡ k
 unfolding size_in
-digits_all w m k h g c = let e : 9 - w ≡ 0 = omega arith in let a : w + size_in 0 m ≡ k = rw e at c in omega arith
+digits_all w m k e c = rw e at c
 
 -- ---- components before the last
 

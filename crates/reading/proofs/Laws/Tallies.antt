@@ -1,4 +1,5 @@
 -- Components of a duration read one after another.
+use Rattle.std.specs.Prelude.{Option, Some, None}
 use mathlib.Core.Path.{◌≡◌, refl, ap, sym, ◌∙◌, subst}
 use mathlib.Core.Bool.{Bool, true, false, ◌||◌, cond}
 use mathlib.Core.List.{List, [], ◌∷◌, ◌++◌, append_assoc, append-nil}
@@ -7,7 +8,6 @@ use native.Mathlib.Omega.{arith}
 use lib.Dec.{eqb, ltb}
 use lib.ListN.{length, length-append, get_or, set, drop}
 use borrow.Author.Tests.{eq-eqb, ne_eqb, eqb-true, eqb-false, lt-ltb, ltb-true, ltb-false}
-use mathlib.Core.Option.{none}
 use Rattle.octets.specs.Found.{Found, found, nothing, onward}
 use Rattle.octets.proofs.Laws.Found.{onward-found}
 use Rattle.texts.specs.Octets.{first_octet, letter_t}
@@ -17,10 +17,10 @@ use Rattle.durations.specs.Durations.{duration_of}
 use Rattle.durations.specs.Texts.{letter_p, date_letters, time_letters, get_present, get_part, get_parts, get_times, get_duration}
 use Rattle.durations.specs.Texts.{whole_duration, read_duration}
 use Rattle.durations.proofs.Laws.Reads.{parts_from_lem, date_pos, time_pos}
-use Rattle.reading.proofs.Laws.Places.{drop_at}
+use Rattle.reading.proofs.Laws.Digits.{drop_at}
 use Rattle.reading.specs.declared.steps.Component.{Component}
 use Rattle.reading.specs.declared.steps.Tally.{Tally}
-use Rattle.reading.specs.Durations.{part_of, IsComponent, designators, designators_in, none_read, with_part, with_parts, added_by}
+use Rattle.reading.specs.Durations.{part_of, seen_part, IsComponent, designators, designators_in, none_read, with_part, with_parts, added_by}
 use Rattle.reading.specs.Durations.{tallied, whole_tally, timed_tally}
 
 -- ---- a designator, and the others
@@ -31,18 +31,17 @@ unfolding with_parts
 onward_again (found ps q) p t k = refl
 onward_again nothing p t k = refl
 
-module _ (s : List ℕ) (g : Component) (i : IsComponent s g) (c : ℕ) (h : 0 < c) (cs : List ℕ) (t : Tally) (k : ℕ) where
-  pub added_there : g.designator ≡ c → added_by (c ∷ cs) (drop g.at s) t k ≡ added_by cs (drop g.next s) (with_part k (part_of g) t) (suc k)
+module _ (l : List ℕ) (o : Option Component) (i : IsComponent l o) (c : ℕ) (h : 0 < c) (cs : List ℕ) (t : Tally) (k : ℕ) where
+  pub added_there : (g : Component) → o ≡ Some g → g.designator ≡ c
+      → added_by (c ∷ cs) l t k ≡ added_by cs g.rest.now (with_part k (part_of g) t) (suc k)
   unfolding added_by get_parts get_part IsComponent
-  added_there e =
-      let p : get_present c (drop g.at s) ≡ found (part_of g) (drop g.next s) = sym (i c h) ∙ rw (eq-eqb g.designator c e) in
-      rw p (onward_again (get_parts cs (drop g.next s)) (part_of g) t k)
+  added_there g e d =
+      let p : get_present c l ≡ found (part_of g) g.rest.now = sym (i c h) ∙ rw (e, eq-eqb g.designator c d) in
+      rw p (onward_again (get_parts cs g.rest.now) (part_of g) t k)
 
-  pub added_other : (g.designator ≡ c → ⊥) → added_by (c ∷ cs) (drop g.at s) t k ≡ added_by cs (drop g.at s) t (suc k)
+  pub added_other : seen_part o c ≡ nothing → added_by (c ∷ cs) l t k ≡ added_by cs l t (suc k)
   unfolding added_by get_parts get_part IsComponent
-  added_other e =
-      let p : get_present c (drop g.at s) ≡ nothing = sym (i c h) ∙ rw (ne_eqb g.designator c e) in
-      rw p (onward_again (get_parts cs (drop g.at s)) absent t k)
+  added_other e = rw (sym (i c h) ∙ e) (onward_again (get_parts cs l) absent t k)
 
 -- Designators are no zeros.
 pub designator_pos : (i : ℕ) → i < 7 → 0 < get_or designators i 0
@@ -276,7 +275,7 @@ dates_read l t r e =
       number = n;
     }
 
-pub read_none : (l : List ℕ) → eqb (first_octet l) letter_p ≡ false → read_duration l ≡ none
+pub read_none : (l : List ℕ) → eqb (first_octet l) letter_p ≡ false → read_duration l ≡ None
 unfolding read_duration get_duration
 read_none l e = rw e
 
@@ -296,13 +295,13 @@ module _ (l : List ℕ) (p : eqb (first_octet l) letter_p ≡ true) (t : Tally) 
       rw (p, d.read, h) (go d.parts d.tally d.number (get_parts time_letters (drop 1 r)) refl)
     where
       more : (ds ts : List Part) (q : List ℕ) (u : Tally) → Tallies ds 3 t → Tallies (ds ++ ts) 0 u → (b : Bool) → any_present ts ≡ b
-          → whole_duration (onward (cond b (found ts q) nothing) λ ts q. found (ds ++ ts) q) ≡ cond (eqb u.count t.count) none (whole_tally u q)
+          → whole_duration (onward (cond b (found ts q) nothing) λ ts q. found (ds ++ ts) q) ≡ cond (eqb u.count t.count) None (whole_tally u q)
       more ds ts q u a k b z =
           let n : u.count ≡ t.count + count ts = k.count ∙ count-append ds ts ∙ rw (← a.count) refl in
           each b z n
         where
           each : (b : Bool) → any_present ts ≡ b → u.count ≡ t.count + count ts
-              → whole_duration (onward (cond b (found ts q) nothing) λ ts q. found (ds ++ ts) q) ≡ cond (eqb u.count t.count) none (whole_tally u q)
+              → whole_duration (onward (cond b (found ts q) nothing) λ ts q. found (ds ++ ts) q) ≡ cond (eqb u.count t.count) None (whole_tally u q)
           each true z n =
               let i : 0 < count ts = ltb-true 0 (count ts) (some_count ts ∙ z) in
               rw (ne_eqb u.count t.count (λ y. omega arith)) (whole-tally (ds ++ ts) u q k)

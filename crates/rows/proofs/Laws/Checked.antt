@@ -1,5 +1,6 @@
 -- Checked values: a success row for each row of Table 2, with the octets and the bit count that the reference gives, written and read. Only
 -- a table refuses an order, a width or a range that writer and reader share.
+use Rattle.std.specs.Prelude.{None}
 use mathlib.Core.Path.{◌≡◌, refl}
 use mathlib.Core.Bool.{Bool, true, false}
 use mathlib.Core.List.{List, [], ◌∷◌}
@@ -23,7 +24,6 @@ use Rattle.texts.specs.declared.values.Zone.{Zone}
 use Rattle.types.specs.declared.types.DateType.{DateType}
 use Rattle.types.specs.Types.{listed}
 use Rattle.types.specs.declared.types.Parts.{Parts}
-use Rattle.types.specs.declared.types.Window.{Window}
 use Rattle.types.specs.declared.years.Years.{Years}
 use Rattle.fields.specs.Bits.{bits_of, number_in, packed, octets_of, unpacked}
 use Rattle.fields.specs.Integers.{half, within, fewest, twos, from_twos}
@@ -85,7 +85,7 @@ abbrev signed : Years
 signed = signed_years true true true true true true
 
 abbrev dates_of : Years → Date → DateType
-dates_of years d = record { form = date_form d; years = years; window = Window.Every }
+dates_of years d = record { form = date_form d; years = years; window = None }
 
 abbrev date_row : Years → Date → YearRow
 date_row years d = year_row_of (listed (Parts.Date (dates_of years d)))

@@ -1,4 +1,5 @@
 -- Texts as checked values, those of the paper first: each row holds of the definitions, and has its proof with it.
+use Rattle.std.specs.Prelude.{Some, None}
 use mathlib.Core.Path.{◌≡◌, refl}
 use mathlib.Core.Bool.{true, false}
 use mathlib.Core.List.{List, [], ◌∷◌}
@@ -18,7 +19,6 @@ use Rattle.texts.specs.Times.{put_fraction, put_time, put_zone, spelling}
 use Rattle.texts.specs.Years.{get_signed, get_year, signed_fits, size_in, year_digits, year_text}
 use Rattle.texts.specs.declared.forms.DateForm.{DateForm}
 use Rattle.texts.specs.declared.forms.Form.{Form}
-use Rattle.texts.specs.declared.texts.TextRead.{TextRead}
 use Rattle.texts.specs.declared.values.Clock.{Clock}
 use Rattle.texts.specs.declared.values.Spelling.{Spelling}
 use Rattle.texts.specs.declared.values.Time.{Time}
@@ -34,11 +34,11 @@ time c n f z = record { clock = c; digits = n; fraction = f; zone = z }
 
 data Row : Type 0 where
   -- a value and its canonical text, which is read as the value again
-  shown : (v : Value) (s : String) → text_of v ≡ chars s → read_of (value_form v) (chars s) ≡ TextRead.Value v canonical → Row
+  shown : (v : Value) (s : String) → text_of v ≡ chars s → read_of (value_form v) (chars s) ≡ Some (v, canonical) → Row
   -- a value and another spelling of it
-  spelled : (v : Value) (s : String) (a : Spelling) → read_of (value_form v) (chars s) ≡ TextRead.Value v a → Row
+  spelled : (v : Value) (s : String) (a : Spelling) → read_of (value_form v) (chars s) ≡ Some (v, a) → Row
   -- a text that is not of the form
-  none : (f : DateForm) (s : String) → read_of (Form.Date f) (chars s) ≡ TextRead.NotOfForm → Row
+  none : (f : DateForm) (s : String) → read_of (Form.Date f) (chars s) ≡ None → Row
 
 texts_checked : List Row
 unfolding astronomical_of year_at put_after put_date get_week get_after get_date put_digits get_digits get_field leading render get_value read_up_to put_clock get_after_hours

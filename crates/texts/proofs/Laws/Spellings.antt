@@ -1,4 +1,5 @@
 -- What a spelling changes of a canonical text: a comma for the full stop, `:00` behind a difference's hours, and nothing else.
+use Rattle.std.specs.Prelude.{Some}
 use mathlib.Core.Path.{◌≡◌, refl, sym, ap, ◌∙◌}
 use mathlib.Core.Bool.{Bool, true, false, ◌&&◌, not, cond}
 use mathlib.Core.List.{List, [], ◌∷◌, ◌++◌, append_assoc, append-nil}
@@ -15,7 +16,6 @@ use Rattle.texts.specs.declared.values.Time.{Time}
 use Rattle.texts.specs.declared.values.Value.{Value}
 use Rattle.texts.specs.declared.values.Spelling.{Spelling}
 use Rattle.texts.specs.declared.forms.Form.{Form}
-use Rattle.texts.specs.declared.texts.TextRead.{TextRead}
 use Rattle.texts.specs.Octets.{hyphen, plus, colon, comma, stop, letter_t}
 use Rattle.texts.specs.Digits.{put_digits}
 use Rattle.texts.specs.Years.{put_year, year_digits, year_text}
@@ -201,10 +201,10 @@ spelled_only s (Value.DateTime d t) =
 
 -- What is read is a text in one of these spellings and in no other: no small letter, no space and no quotation mark is read.
 pub read_spelled : (most : ℕ) → 4 ≤ most → most ≤ 9 → (f : Form) (l : List ℕ) (v : Value) (s : Spelling) →
-    read_up_to most f l ≡ TextRead.Value v s → l ≡ spelled_text s v
+    read_up_to most f l ≡ Some (v, s) → l ≡ spelled_text s v
 read_spelled most low high f l v s e = (render_read most low high f l v s e).0 ∙ spelled_only s v
 
 -- A text in each of these spellings is read: a comma in every form with a fraction, `:00` in every form with a difference.
 pub spelled_read : (most : ℕ) → 4 ≤ most → most ≤ 20 → (s : Spelling) (v : Value) → Fits most v →
-    read_up_to most (value_form v) (spelled_text s v) ≡ TextRead.Value v (shown_in s v)
+    read_up_to most (value_form v) (spelled_text s v) ≡ Some (v, (shown_in s v))
 spelled_read most low high s v h = rw (← spelled_only s v) (read_render most low high s v h)

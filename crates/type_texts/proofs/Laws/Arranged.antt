@@ -1,12 +1,15 @@
 -- The converse of completeness: a list that can be read is the pairs of its settings, each once, in some order, and nothing else.
+use Rattle.std.specs.Prelude.{Option, Some, None}
+use Rattle.std.specs.Option.{is_some}
+use Rattle.lists.specs.Lists.{numbers_in}
 use mathlib.Core.Path.{◌≡◌, refl, ap, sym, ◌∙◌, subst}
 use mathlib.Core.List.{List, [], ◌∷◌, ◌++◌, Permᴰ}
 use mathlib.Core.Bool.{Bool, true, false, ◌&&◌, not, cond, and-eq-true_iff, false≢true}
 use Prim.Native.Nat.{ℕ, zero, suc, ◌+◌, ◌<◌, ◌≤◌}
 use native.Mathlib.Omega.{arith}
-use lib.Dec.{eqb, ltb}
-use lib.ListN.{length, get_or, set, length-set}
-use borrow.Author.Tests.{ltb-true, eqb-true}
+use lib.Dec.{eqb}
+use lib.ListN.{length, get_or, set}
+use borrow.Author.Tests.{eqb-true}
 use Rattle.octets.specs.Octets.{bytes}
 use Rattle.octets.specs.Pieces.{split_on}
 use Rattle.lists.specs.Words.{pair, pair_of}
@@ -14,7 +17,8 @@ use Rattle.lists.specs.Lists.{settings, none_yet, refused_list, add_pair, add_pa
 use Rattle.lists.specs.Lists.{completed, list_of}
 use Rattle.lists.specs.declared.words.Pair.{Pair}
 use Rattle.lists.specs.declared.lists.Settings.{Settings}
-use Rattle.lists.proofs.Laws.Lists.{six_properties}
+use Rattle.lists.proofs.Laws.Lists.{six_properties, some_setting}
+use Rattle.lists.proofs.Laws.Order.{add-length}
 use Rattle.texts.specs.declared.forms.DateForm.{DateForm}
 use Rattle.texts.specs.declared.forms.ClockForm.{ClockForm}
 use Rattle.texts.specs.declared.forms.TimeForm.{TimeForm}
@@ -29,7 +33,7 @@ use Rattle.type_texts.proofs.Laws.Words.{SettingWord, basic_date, basic_time, ba
 use Rattle.type_texts.proofs.Laws.Words.{setting_spelled, pairs_read}
 
 -- The pieces of a list and its settings: those of a date, of a time, of both, or of durations.
-pub data ListOf (ws : List (List ℕ)) (s : Settings) : Type 0 where
+pub data ListOf (ws : List (List ℕ)) (s : Option Settings) : Type 0 where
   a_date : (f : DateForm) (y : YearSetting) → Permᴰ ws (date_pairs f y) → s ≡ date_list f y → ListOf ws s
   a_time : (t : TimeForm) → t.digits ≤ 9 → Permᴰ ws (time_pairs t) → s ≡ time_list t → ListOf ws s
   a_date_time : (f : DateForm) (t : TimeForm) (y : YearSetting) → t.digits ≤ 9 → Permᴰ ws (date_time_pairs f t y) → s ≡ date_time_list f t y → ListOf ws s
@@ -64,32 +68,34 @@ put (suc p) k ns us w n q e h l g x (has {w = u} {ns = ms} {ws = vs} i y r) =
 
 -- ---- pairs that are added
 
-record Added (s : Settings) (p : Pair) : Type 0 where
-  some : 0 < p.setting
-  fresh : get_or s.numbers p.property 0 ≡ 0
-  numbers_are : (add_pair s p).numbers ≡ set s.numbers p.property p.setting
+record Added (s : Option Settings) (q : Option Pair) : Type 0 where
+  one : Pair
+  one-is : q ≡ Some one
+  fresh : get_or (numbers_in s) one.property 0 ≡ 0
+  numbers_are : numbers_in (add_pair s q) ≡ set (numbers_in s) one.property one.setting
 
-added : (s : Settings) (p : Pair) → (add_pair s p).readable ≡ true → Added s p
+added : (s : Option Settings) (q : Option Pair) → is_some (add_pair s q) ≡ true → Added s q
 unfolding add_pair
-added s p = go s.readable (ltb 0 p.setting) (eqb (get_or s.numbers p.property 0) 0) refl refl refl
+added None q h = absurd (false≢true h)
+added (Some s) None h = absurd (false≢true h)
+added (Some s) (Some p) h = go (eqb (get_or s.numbers p.property 0) 0) refl h
   where
-    go : (a b c : Bool) → s.readable ≡ a → ltb 0 p.setting ≡ b → eqb (get_or s.numbers p.property 0) 0 ≡ c
-        → (cond (a && (b && c)) (settings (set s.numbers p.property p.setting)) refused_list).readable ≡ true → Added s p
-    go true true true e f g h = record { some = ltb-true 0 p.setting f; fresh = eqb-true _ 0 g; numbers_are = rw (e, f, g) }
-    go true true false e f g h = absurd (false≢true h)
-    go true false c e f g h = absurd (false≢true h)
-    go false b c e f g h = absurd (false≢true h)
+    go : (c : Bool) → eqb (get_or s.numbers p.property 0) 0 ≡ c → is_some (cond c (settings (set s.numbers p.property p.setting)) refused_list) ≡ true
+        → Added (Some s) (Some p)
+    go true g h = record { one = p; one-is = refl; fresh = eqb-true _ 0 g; numbers_are = rw g }
+    go false g h = absurd (false≢true h)
 
-pairs_shown : (s : Settings) (ws us : List (List ℕ)) → length s.numbers ≡ 6 → Shown 0 s.numbers us → (add_pairs s ws).readable ≡ true
-    → More 0 (add_pairs s ws).numbers (ws ++ us)
+pairs_shown : (s : Option Settings) (ws us : List (List ℕ)) → length (numbers_in s) ≡ 6 → Shown 0 (numbers_in s) us → is_some (add_pairs s ws) ≡ true
+    → More 0 (numbers_in (add_pairs s ws)) (ws ++ us)
 unfolding add_pairs
 pairs_shown s [] us l r h = record { words = us; shown = r; perm = mathlib.Core.List.Permᴰ.refl us }
 pairs_shown s (w ∷ ws) us l r h =
     let a = added s (pair_of w) (pairs_read (add_pair s (pair_of w)) ws h) in
-    let six = six_properties w in
-    let m = put (pair_of w).property 0 s.numbers us w (pair_of w).setting (pair_of w).property (omega arith) a.some (omega arith) a.fresh
-    (setting_spelled w a.some) r in
-    let k : length (add_pair s (pair_of w)).numbers ≡ 6 = ap length a.numbers_are ∙ length-set s.numbers (pair_of w).property (pair_of w).setting ∙ l in
+    let p = a.one in
+    let six : p.property < 6 = six_properties w p a.one-is in
+    let m = put p.property 0 (numbers_in s) us w p.setting p.property (omega arith) (some_setting w p a.one-is) (omega arith) a.fresh
+    (setting_spelled w p a.one-is) r in
+    let k : length (numbers_in (add_pair s (pair_of w))) ≡ 6 = add-length s (pair_of w) l in
     let i = pairs_shown (add_pair s (pair_of w)) ws m.words k (subst (λ (ns : List ℕ). Shown 0 ns m.words) (sym a.numbers_are) m.shown) h in
     record {
       words = i.words;
@@ -97,15 +103,10 @@ pairs_shown s (w ∷ ws) us l r h =
       perm = mathlib.Core.List.Permᴰ.trans (mathlib.Core.List.Permᴰ.symm (mathlib.Core.List.Permᴰ.middle w ws us)) (mathlib.Core.List.Permᴰ.trans (mathlib.Core.List.Permᴰ.append_left ws m.perm) i.perm);
     }
 
-pairs_length : (s : Settings) (ws : List (List ℕ)) → length s.numbers ≡ 6 → length (add_pairs s ws).numbers ≡ 6
-unfolding add_pairs add_pair
+pairs_length : (s : Option Settings) (ws : List (List ℕ)) → length (numbers_in s) ≡ 6 → length (numbers_in (add_pairs s ws)) ≡ 6
+unfolding add_pairs
 pairs_length s [] l = l
-pairs_length s (w ∷ ws) l = pairs_length (add_pair s (pair_of w)) ws (go
-    (s.readable && (ltb 0 (pair_of w).setting && eqb (get_or s.numbers (pair_of w).property 0) 0)))
-  where
-    go : (b : Bool) → length (cond b (settings (set s.numbers (pair_of w).property (pair_of w).setting)) refused_list).numbers ≡ 6
-    go true = length-set s.numbers (pair_of w).property (pair_of w).setting ∙ l
-    go false = refl
+pairs_length s (w ∷ ws) l = pairs_length (add_pair s (pair_of w)) ws (add-length s (pair_of w) l)
 
 -- ---- the words of each property
 
@@ -317,7 +318,7 @@ first_there b d y t z i c =
     (six_hold (not (eqb b 0)) (present_if (dated_list s) d) (present_if (dated_list s) y) (present_if (timed_list s) t) (present_if (timed_list s) z)
     (present_if (interval_list s) i) c).0
   where
-    s : Settings
+    s : Option Settings
     s = settings (b ∷ d ∷ y ∷ t ∷ z ∷ i ∷ [])
 
 -- Six numbers that are complete are the settings of their words.
@@ -335,7 +336,7 @@ complete_list (b ∷ d ∷ y ∷ t ∷ z ∷ i ∷ o ∷ ns) ws l x c = absurd (
 
 -- ---- the law
 
-any_order : (us ws : List (List ℕ)) (s : Settings) → Permᴰ us ws → ListOf ws s → ListOf us s
+any_order : (us ws : List (List ℕ)) (s : Option Settings) → Permᴰ us ws → ListOf ws s → ListOf us s
 any_order us ws s p (a_date f y q e) = a_date f y (mathlib.Core.List.Permᴰ.trans p q) e
 any_order us ws s p (a_time t h q e) = a_time t h (mathlib.Core.List.Permᴰ.trans p q) e
 any_order us ws s p (a_date_time f t y h q e) = a_date_time f t y h (mathlib.Core.List.Permᴰ.trans p q) e
@@ -345,23 +346,24 @@ append-nothing : (ws : List (List ℕ)) → ws ++ [] ≡ ws
 append-nothing [] = refl
 append-nothing (w ∷ ws) = ap (λ (l : List (List ℕ)). w ∷ l) (append-nothing ws)
 
-again : (s : Settings) → s.readable ≡ true → s ≡ settings s.numbers
-again s h = λ i. record { readable = h i; numbers = s.numbers }
+again : (s : Option Settings) → is_some s ≡ true → s ≡ settings (numbers_in s)
+again None h = absurd (false≢true h)
+again (Some s) h = refl
 
 -- A text that is read as a list is the pairs of a list's settings, "each property at most once", "in any order", with one space between.
-pub list_arranged : (l : List ℕ) → (list_of l).readable ≡ true → ListOf (split_on 32 l) (list_of l)
+pub list_arranged : (l : List ℕ) → is_some (list_of l) ≡ true → ListOf (split_on 32 l) (list_of l)
 unfolding list_of completed
 list_arranged l = go (complete s) refl
   where
-    s : Settings
+    s : Option Settings
     s = add_pairs (settings none_yet) (split_on 32 l)
 
-    go : (b : Bool) → complete s ≡ b → (cond b s refused_list).readable ≡ true → ListOf (split_on 32 l) (cond b s refused_list)
+    go : (b : Bool) → complete s ≡ b → is_some (cond b s refused_list) ≡ true → ListOf (split_on 32 l) (cond b s refused_list)
     go false c h = absurd (false≢true h)
     go true c h =
         let m = pairs_shown (settings none_yet) (split_on 32 l) [] refl (lacks (lacks (lacks (lacks (lacks (lacks (end 6))))))) h in
         let q : Permᴰ (split_on 32 l) m.words = subst (λ (us : List (List ℕ)). Permᴰ us m.words) (append-nothing (split_on 32 l)) m.perm in
-        let e : s ≡ settings s.numbers = again s h in
+        let e : s ≡ settings (numbers_in s) = again s h in
         subst (ListOf (split_on 32 l)) (sym e)
-        (any_order (split_on 32 l) m.words (settings s.numbers) q
-        (complete_list s.numbers m.words (pairs_length (settings none_yet) (split_on 32 l) refl) m.shown (sym (ap complete e) ∙ c)))
+        (any_order (split_on 32 l) m.words (settings (numbers_in s)) q
+        (complete_list (numbers_in s) m.words (pairs_length (settings none_yet) (split_on 32 l) refl) m.shown (sym (ap complete e) ∙ c)))

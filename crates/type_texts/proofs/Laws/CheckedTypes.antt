@@ -1,6 +1,8 @@
 -- Checked values of the definitions of types: one table of type texts with their numbers, one of types that select the
 -- same rows or not, and one of fraction digits, each closed by computation. The paper gives their rows.
+use Rattle.std.specs.Prelude.{None, Some}
 use mathlib.Core.Path.{◌≡◌, refl}
+use Rattle.calendar.specs.declared.years.Year.{Year}
 use mathlib.Core.Bool.{Bool, true, false, beq, ◌&&◌}
 use mathlib.Core.List.{List, [], ◌∷◌}
 use Prim.Native.Nat.{ℕ}
@@ -14,27 +16,26 @@ use Rattle.types.specs.Numbers.{date_at, clock_at, zone_at}
 use Rattle.types.specs.Years.{year_setting_at}
 use Rattle.types.specs.AnyTypes.{fraction_digits, limited_to}
 use Rattle.types.specs.Types.{type_number, placed, no_limits}
-use Rattle.types.specs.Rows.{time_number, same_row, same_rows}
+use Rattle.types.specs.Rows.{same_rows}
 use Rattle.lists.specs.Words.{place_from, fraction_number, pair_of}
 use Rattle.lists.specs.Lists.{add_pair, add_pairs, dated_list, timed_list, interval_list, complete, completed, list_of}
 use Rattle.type_texts.specs.TypeTexts.{lists_of, same_but_year, one_row, equal_lists, all_of, distinct, usable, member, years_of, time_at, list_type}
 use Rattle.type_texts.specs.TypeTexts.{point_type, joined, type_of}
-use Rattle.types.specs.declared.types.Window.{Window}
 use Rattle.types.specs.declared.types.Limits.{Limits}
 use Rattle.types.specs.declared.types.TypeRead.{TypeRead}
 
 abbrev pub from2000 : Limits
-from2000 = record { window = Window.Within (year_at (pos 2000)) (year_at (pos 2099)); hour24 = true }
+from2000 = record { window = Some ((year_at (pos 2000)), (year_at (pos 2099))); hour24 = true }
 
 -- a lowest year above the highest
 abbrev pub no_years : Limits
-no_years = record { window = Window.Within (year_at (pos 2001)) (year_at (pos 2000)); hour24 = true }
+no_years = record { window = Some ((year_at (pos 2001)), (year_at (pos 2000))); hour24 = true }
 
 abbrev pub no_hour24 : Limits
-no_hour24 = record { window = Window.Every; hour24 = false }
+no_hour24 = record { window = None; hour24 = false }
 
 abbrev pub both_limits : Limits
-both_limits = record { window = Window.Within (year_at (pos 2000)) (year_at (pos 2099)); hour24 = false }
+both_limits = record { window = Some ((year_at (pos 2000)), (year_at (pos 2099))); hour24 = false }
 
 -- a type's text, its limits, and the number that they give
 data TextRow : Type 0 where
@@ -459,7 +460,7 @@ pairs_right (pair s t expected ∷ l) = alike (type_of no_limits (bytes s)) (typ
 pairs_right (limited s m t n expected ∷ l) = alike (type_of m (bytes s)) (type_of n (bytes t)) expected && pairs_right l
 
 pairs_checked : pairs_right pairs ≡ true
-unfolding pairs pairs_right alike time_number same_row same_rows type_of joined list_type time_at years_of member usable distinct all_of equal_lists one_row
+unfolding pairs pairs_right alike same_rows type_of joined list_type time_at years_of member usable distinct all_of equal_lists one_row
     point_type same_but_year lists_of list_of completed complete timed_list dated_list interval_list add_pairs add_pair split_on pair_of fraction_number place_from
     limited_to placed zone_at clock_at date_at year_setting_at eq_list
 pairs_checked = refl

@@ -1,4 +1,5 @@
 -- Completeness: every well-formed type is read from its settings, its lists in any order and the pairs of each in any order.
+use Rattle.std.specs.Prelude.{Option}
 use mathlib.Core.Path.{◌≡◌, refl, ap, sym, ◌∙◌}
 use mathlib.Core.List.Permᴰ
 use mathlib.Core.List.{List, [], ◌∷◌, map, Permᴰ}
@@ -55,7 +56,7 @@ unfolding all_of
 duration-text = list_text duration_pairs duration_list (omega arith) (rw (basic-words.3, interval_is_word)) duration-list
 
 -- The lists of at least one Year are read and joined.
-some_read : (f : YearSetting → List (List ℕ)) (g : YearSetting → Settings) →
+some_read : (f : YearSetting → List (List ℕ)) (g : YearSetting → Option Settings) →
     ((y : YearSetting) (ws : List (List ℕ)) → Permᴰ ws (f y) → ListText ws (g y)) →
     (limits : Limits) (ys : List YearSetting) → (y : YearSetting) × (zs : List YearSetting) × (ys ≡ y ∷ zs) → {wss : List (List (List ℕ))} →
     InAnyOrder wss (map f ys) →

@@ -1,5 +1,7 @@
 -- The converse of completeness for types: what is read as a type is the name of a useful time type, or the settings of that type, its lists in some
 -- order and the pairs of each in some order.
+use Rattle.std.specs.Prelude.{Option}
+use Rattle.std.specs.Option.{is_some}
 use mathlib.Core.Path.{◌≡◌, refl, ap, ap₂, sym, ◌∙◌, subst}
 use mathlib.Core.List.{List, [], ◌∷◌, map, Permᴰ}
 use mathlib.Core.Bool.{Bool, true, false, ◌&&◌, ◌||◌, not, cond, and-eq-true_iff, false≢true}
@@ -144,7 +146,7 @@ named_order r ys a h =
 -- ---- lists that share a row
 
 -- A list with a date that shares the row of another has its Date setting, ..
-of_date : (f : DateForm) (y : YearSetting) (ws : List (List ℕ)) (s : Settings) → ListOf ws s → Alike (date_list f y) s
+of_date : (f : DateForm) (y : YearSetting) (ws : List (List ℕ)) (s : Option Settings) → ListOf ws s → Alike (date_list f y) s
     → (z : YearSetting) × (Permᴰ ws (date_pairs f z)) × (s ≡ date_list f z)
 of_date f y ws s (a_date g z p e) a =
     let m : Alike (date_list f y) (date_list g z) = rw e at a in
@@ -155,7 +157,7 @@ of_date f y ws s (a_date_time g u z k p e) a = let m : Alike (date_list f y) (da
 of_date f y ws s (a_duration p e) a = let m : Alike (date_list f y) duration_list = rw e at a in let z = m.basic_is in absurd (omega arith)
 
 -- .. one with a date and a time its Date, Time and Local-or-UTC settings, ..
-of_date_time : (f : DateForm) (u : TimeForm) (y : YearSetting) (ws : List (List ℕ)) (s : Settings) → ListOf ws s → Alike (date_time_list f u y) s
+of_date_time : (f : DateForm) (u : TimeForm) (y : YearSetting) (ws : List (List ℕ)) (s : Option Settings) → ListOf ws s → Alike (date_time_list f u y) s
     → (z : YearSetting) × (Permᴰ ws (date_time_pairs f u z)) × (s ≡ date_time_list f u z)
 of_date_time f u y ws s (a_date_time g v z k p e) a =
     let m : Alike (date_time_list f u y) (date_time_list g v z) = rw e at a in
@@ -173,7 +175,7 @@ of_date_time f u y ws s (a_time v k p e) a = let m : Alike (date_time_list f u y
 of_date_time f u y ws s (a_duration p e) a = let m : Alike (date_time_list f u y) duration_list = rw e at a in let z = m.basic_is in absurd (omega arith)
 
 -- .. and a list without a Year is the same.
-no_year : (s : Settings) → year_in s ≡ 0 → (q : List (List ℕ)) (t : Settings) → ListOf q t → Alike s t → dated_list s ≡ false → equal_lists s t ≡ true
+no_year : (s : Option Settings) → year_in s ≡ 0 → (q : List (List ℕ)) (t : Option Settings) → ListOf q t → Alike s t → dated_list s ≡ false → equal_lists s t ≡ true
 unfolding equal_lists same_but_year dated_list
 no_year s z q t r a n =
     let y : year_in t ≡ 0 = go r in
@@ -195,18 +197,18 @@ no_year s z q t r a n =
 -- ---- all lists of a text
 
 -- A list that is usable can be read.
-pub usable_read : (limits : Limits) (s : Settings) → usable limits s ≡ true → s.readable ≡ true
+pub usable_read : (limits : Limits) (s : Option Settings) → usable limits s ≡ true → is_some s ≡ true
 unfolding usable
 usable_read limits s e = ((and-eq-true_iff _ _).0 e).0
 
 -- The Years of lists of one shape, with their pairs.
-record Gathered (f : YearSetting → List (List ℕ)) (g : YearSetting → Settings) (ps : List (List ℕ)) : Type 0 where
+record Gathered (f : YearSetting → List (List ℕ)) (g : YearSetting → Option Settings) (ps : List (List ℕ)) : Type 0 where
   years : List YearSetting
   of_pairs : Arranged (pieces ps) (map f years)
   lists_are : map list_of ps ≡ map g years
 
-gather : (limits : Limits) (f : YearSetting → List (List ℕ)) (g : YearSetting → Settings) (s : Settings)
-    → ((ws : List (List ℕ)) (t : Settings) → ListOf ws t → Alike s t → (z : YearSetting) × (Permᴰ ws (f z)) × (t ≡ g z))
+gather : (limits : Limits) (f : YearSetting → List (List ℕ)) (g : YearSetting → Option Settings) (s : Option Settings)
+    → ((ws : List (List ℕ)) (t : Option Settings) → ListOf ws t → Alike s t → (z : YearSetting) × (Permᴰ ws (f z)) × (t ≡ g z))
     → (ps : List (List ℕ)) → all_of (usable limits) (map list_of ps) ≡ true → all_of (one_row s) (map list_of ps) ≡ true → Gathered f g ps
 unfolding all_of
 gather limits f g s k [] u o = record { years = []; of_pairs = end; lists_are = refl }
@@ -218,7 +220,7 @@ gather limits f g s k (p ∷ ps) u o =
     record {
       years = z.0 ∷ r.years;
       of_pairs = more z.1 r.of_pairs;
-      lists_are = ap₂ (λ (s : Settings) (w : List Settings). s ∷ w) z.2
+      lists_are = ap₂ (λ (s : Option Settings) (w : List (Option Settings)). s ∷ w) z.2
           r.lists_are;
     }
 
@@ -259,7 +261,7 @@ first-row y ys k x m = go (eqb (year_number y) (year_number x)) refl m
     go true e j = ap row_of_year (by_number year_number year_setting_at year_back x y (sym (eqb-true _ _ e)))
     go false e j = k x j
 
-first_read : (limits : Limits) (p : List ℕ) (ps : List (List ℕ)) → all_of (usable limits) (map list_of (p ∷ ps)) ≡ true → (list_of p).readable ≡ true
+first_read : (limits : Limits) (p : List ℕ) (ps : List (List ℕ)) → all_of (usable limits) (map list_of (p ∷ ps)) ≡ true → is_some (list_of p) ≡ true
 unfolding all_of
 first_read limits p ps u = usable_read limits (list_of p) ((and-eq-true_iff (usable limits (list_of p)) _).0 u).0
 
@@ -290,7 +292,7 @@ module _ (limits : Limits) (l : List ℕ) (t : AnyType) (h : type_of limits l �
     where
       fused : (v : List YearSetting) → map (λ w. list_at b d c z 0 (year_number w)) v ≡ map (list_at b d c z 0) (numbers v)
       fused [] = refl
-      fused (w ∷ v) = ap (λ (g : List Settings). list_at b d c z 0 (year_number w) ∷ g) (fused v)
+      fused (w ∷ v) = ap (λ (g : List (Option Settings)). list_at b d c z 0 (year_number w) ∷ g) (fused v)
 
   -- A list without a date stands alone.
   undated : dated_list (list_of p) ≡ false → year_in (list_of p) ≡ 0 → ps ≡ []
@@ -315,8 +317,8 @@ module _ (limits : Limits) (l : List ℕ) (t : AnyType) (h : type_of limits l �
       (record { lists = vs ∷ []; of_lists = rw k (mathlib.Core.List.Permᴰ.refl (vs ∷ [])); of_pairs = more q end })
       (type-text l (p ∷ []) (x ∙ ap (λ (r : List (List ℕ)). p ∷ r) e))
 
-  gathered : (f : YearSetting → List (List ℕ)) (g : YearSetting → Settings)
-      → ((ws : List (List ℕ)) (s : Settings) → ListOf ws s → Alike (list_of p) s → (z : YearSetting) × (Permᴰ ws (f z)) × (s ≡ g z)) → Gathered f g ps
+  gathered : (f : YearSetting → List (List ℕ)) (g : YearSetting → Option Settings)
+      → ((ws : List (List ℕ)) (s : Option Settings) → ListOf ws s → Alike (list_of p) s → (z : YearSetting) × (Permᴰ ws (f z)) × (s ≡ g z)) → Gathered f g ps
   unfolding all_of
   gathered f g k = gather limits f g (list_of p) k ps ((and-eq-true_iff (usable limits (list_of p)) _).0 u).1 o
 

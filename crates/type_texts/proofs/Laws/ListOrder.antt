@@ -1,4 +1,5 @@
 -- Lists may stand in any order: the type, or the refusal, is the same.
+use Rattle.std.specs.Prelude.{Option}
 use mathlib.Core.Path.{◌≡◌, refl, ap, ap₂, sym, ◌∙◌}
 use mathlib.Core.Bool.{Bool, true, false, ◌&&◌, not, cond, and-false, and-eq-true_iff, false≢true}
 use mathlib.Core.List.{List, [], ◌∷◌, ◌++◌, map, Permᴰ}
@@ -26,7 +27,7 @@ use Rattle.type_texts.proofs.Laws.Tests.{five_hold}
 
 -- ---- two lists
 
-module _ (a b : Settings) where
+module _ (a b : Option Settings) where
   same_sym : same_but_year a b ≡ same_but_year b a
   unfolding same_but_year
   same_sym =
@@ -54,7 +55,7 @@ one_number YearRow.AnyYear YearRow.Year e = absurd (omega arith)
 one_number YearRow.AnyYear YearRow.AnyYear e = refl
 
 -- What two lists of one row share.
-pub record Alike (s t : Settings) : Type 0 where
+pub record Alike (s t : Option Settings) : Type 0 where
   pub basic_is : basic_in s ≡ basic_in t
   pub date_is : date_in s ≡ date_in t
   pub time_is : time_in s ≡ time_in t
@@ -62,7 +63,7 @@ pub record Alike (s t : Settings) : Type 0 where
   pub interval_is : interval_in s ≡ interval_in t
   pub row_is : row_in s ≡ row_in t
 
-pub alike : (s t : Settings) → one_row s t ≡ true → Alike s t
+pub alike : (s t : Option Settings) → one_row s t ≡ true → Alike s t
 unfolding one_row same_but_year
 alike s t e =
     let p : (same_but_year s t ≡ true) × (eqb (row_number (row_in s)) (row_number (row_in t)) ≡ true) = (and-eq-true_iff _ _).0 e in
@@ -78,7 +79,7 @@ alike s t e =
     }
 
 -- Lists of one row share it with the same lists.
-pub row_same : (s t : Settings) → Alike s t → (u : Settings) → one_row s u ≡ one_row t u
+pub row_same : (s t : Option Settings) → Alike s t → (u : Option Settings) → one_row s u ≡ one_row t u
 unfolding one_row same_but_year
 row_same s t a u = rw (a.basic_is, a.date_is, a.time_is, a.zone_is, a.interval_is, a.row_is)
 
@@ -91,11 +92,11 @@ module _ (ys zs : List ℕ) (h : (n : ℕ) → member n ys ≡ member n zs) wher
   years_same YearRow.AnyYear = rw (h 3, h 4, h 5, h 6, h 7, h 8)
 
   -- Lists of one row, with the same Years beside them, are of one type.
-  type_same : (a b : Settings) → Alike a b → list_type a (years_of (row_in a) ys) ≡ list_type b (years_of (row_in b) zs)
+  type_same : (a b : Option Settings) → Alike a b → list_type a (years_of (row_in a) ys) ≡ list_type b (years_of (row_in b) zs)
   unfolding list_type point_type dated_list timed_list
   type_same a b s = rw (s.basic_is, s.date_is, s.time_is, s.zone_is, s.row_is, years_same (row_in b))
 
-itself : (s : Settings) → Alike s s
+itself : (s : Option Settings) → Alike s s
 itself s = record { basic_is = refl; date_is = refl; time_is = refl; zone_is = refl; interval_is = refl; row_is = refl }
 
 and_cross : (a b c d : Bool) → (a && b) && (c && d) ≡ (a && c) && (b && d)
@@ -109,12 +110,12 @@ unfolding all_of
 all_same p q h [] = refl
 all_same p q h (x ∷ l) = ap₂ (λ (a b : Bool). a && b) (h x) (all_same p q h l)
 
-distinct-perm : {a b : List Settings} → Permᴰ a b → distinct a ≡ distinct b
+distinct-perm : {a b : List (Option Settings)} → Permᴰ a b → distinct a ≡ distinct b
 unfolding distinct all_of
 distinct-perm Permᴰ.nil = refl
 distinct-perm (Permᴰ.cons {b = b} e d) = rw e (ap₂ (λ (t u : Bool). t && u) (all_perm (λ t. not (equal_lists b t)) d) (distinct-perm d))
 distinct-perm (Permᴰ.swap {a = a} {b = b} {l = r} e g) =
-    turned ∙ ap₂ (λ (x y : Settings). distinct (x ∷ y ∷ r)) g e
+    turned ∙ ap₂ (λ (x y : Option Settings). distinct (x ∷ y ∷ r)) g e
   where
     turned : distinct (a ∷ b ∷ r) ≡ distinct (b ∷ a ∷ r)
     turned =
@@ -123,23 +124,23 @@ distinct-perm (Permᴰ.swap {a = a} {b = b} {l = r} e g) =
 distinct-perm (Permᴰ.trans d e) = distinct-perm d ∙ distinct-perm e
 
 module _ (limits : Limits) where
-  abbrev fine : List Settings → Bool
+  abbrev fine : List (Option Settings) → Bool
   fine l = leb (length l) most_lists && all_of (usable limits) l && distinct l
 
-  fine_perm : {a b : List Settings} → Permᴰ a b → fine a ≡ fine b
+  fine_perm : {a b : List (Option Settings)} → Permᴰ a b → fine a ≡ fine b
   fine_perm d = rw (length-perm d, all_perm (usable limits) d, distinct-perm d)
 
-  abbrev of_row : Settings → List Settings → List ℕ → TypeRead
+  abbrev of_row : Option Settings → List (Option Settings) → List ℕ → TypeRead
   of_row s r ys = cond (all_of (one_row s) r) (limited_to limits (list_type s (years_of (row_in s) ys))) TypeRead.NoRow
 
-  row-perm : (s : Settings) {a b : List Settings} → Permᴰ a b → of_row s a (map year_in (s ∷ a)) ≡ of_row s b (map year_in (s ∷ b))
+  row-perm : (s : Option Settings) {a b : List (Option Settings)} → Permᴰ a b → of_row s a (map year_in (s ∷ a)) ≡ of_row s b (map year_in (s ∷ b))
   row-perm s {a} {b} d =
       rw (
         all_perm (one_row s) d,
         type_same (map year_in (s ∷ a)) (map year_in (s ∷ b)) (λ n. member-perm n (perm-map year_in (Permᴰ.cons {a = s} {b = s} refl d))) s s (itself s),
       )
 
-  row_swap : (a b : Settings) (r : List Settings) → of_row a (b ∷ r) (map year_in (a ∷ b ∷ r)) ≡ of_row b (a ∷ r) (map year_in (b ∷ a ∷ r))
+  row_swap : (a b : Option Settings) (r : List (Option Settings)) → of_row a (b ∷ r) (map year_in (a ∷ b ∷ r)) ≡ of_row b (a ∷ r) (map year_in (b ∷ a ∷ r))
   unfolding all_of
   row_swap a b r = go (one_row a b) refl
     where
@@ -157,7 +158,7 @@ module _ (limits : Limits) where
       go false e = rw (e, sym (row_sym a b) ∙ e)
 
   -- Lists give the same type, or the same refusal, in any order.
-  pub joined-perm : {a b : List Settings} → Permᴰ a b → joined limits a ≡ joined limits b
+  pub joined-perm : {a b : List (Option Settings)} → Permᴰ a b → joined limits a ≡ joined limits b
   unfolding joined
   joined-perm Permᴰ.nil = refl
   joined-perm (Permᴰ.cons {a = a} {b = b} {l₁ = l} {l₂ = r} e d) =

@@ -1,4 +1,6 @@
 -- "2 for any other difference" (#103): when a type's text is refusal 2. All else that is no type is 1.
+use Rattle.std.specs.Prelude.{Option}
+use Rattle.std.specs.Option.{is_some}
 use mathlib.Core.Path.{◌≡◌, refl, ap, sym, ◌∙◌, subst}
 use mathlib.Core.Logic.{◌⊎◌, inl, inr}
 use mathlib.Core.List.{List, [], ◌∷◌, ◌++◌, map}
@@ -100,10 +102,10 @@ module _ (limits : Limits) where
       and_one (λ q a s. held (same_are_equal _ _ s) (not-true _ (of_all list_of (λ t. not (equal_lists (list_of p) t)) ps h.0 q a))) (tests_differ ps h.1)
 
   -- Of two lists of one row with a third, each is of one row with the other.
-  shared : (s t u : Settings) → one_row s t ≡ true → one_row s u ≡ true → one_row t u ≡ true
+  shared : (s t u : Option Settings) → one_row s t ≡ true → one_row s u ≡ true → one_row t u ≡ true
   shared s t u e f = sym (row_same s t (alike s t e) u) ∙ f
 
-  row_itself : (s : Settings) → (t : Settings) → one_row s t ≡ true → one_row s s ≡ true
+  row_itself : (s : Option Settings) → (t : Option Settings) → one_row s t ≡ true → one_row s s ≡ true
   row_itself s t e = shared t s s (sym (row_sym s t) ∙ e) (sym (row_sym s t) ∙ e)
 
   -- Where all lists share a row with the first, any two of them share it.
@@ -115,7 +117,7 @@ module _ (limits : Limits) where
   all_share p ps e q r (there a) (there b) =
       inr (shared (list_of p) (list_of q) (list_of r) (of_all list_of (one_row (list_of p)) ps e q a) (of_all list_of (one_row (list_of p)) ps e r b))
 
-  joined_apart : (s : Settings) (r : List Settings) → length (s ∷ r) ≤ most_lists → all_of (usable limits) (s ∷ r) ≡ true → distinct (s ∷ r) ≡ true
+  joined_apart : (s : Option Settings) (r : List (Option Settings)) → length (s ∷ r) ≤ most_lists → all_of (usable limits) (s ∷ r) ≡ true → distinct (s ∷ r) ≡ true
       → all_of (one_row s) r ≡ false → joined limits (s ∷ r) ≡ TypeRead.NoRow
   unfolding joined
   joined_apart s r c u d o = rw (le-leb (length (s ∷ r)) most_lists c, u, d, o)
@@ -130,7 +132,7 @@ alone q p here = refl
 alone q p (there x) = elim x [ ]
 
 module _ (limits : Limits) (l : List ℕ) (r : TwoRows limits l) where
-  list_read : (p : List ℕ) → Among p r.lists → (list_of p).readable ≡ true
+  list_read : (p : List ℕ) → Among p r.lists → is_some (list_of p) ≡ true
   list_read p a = usable_read limits (list_of p) (r.readable p a)
 
   clash : (list_of r.first ≡ list_of r.second) ⊎ (one_row (list_of r.first) (list_of r.second) ≡ true) → ⊥
@@ -171,7 +173,7 @@ passed true x e = (refl, e)
 passed false x e = absurd (let z : ◌≡◌ {A = ℕ} 0 1 = cc in omega arith)
 
 -- One that fails a test.
-one_fails : (q : Settings → Bool) (ps : List (List ℕ)) → all_of q (map list_of ps) ≡ false → (p : List ℕ) × (Among p ps) × (q (list_of p) ≡ false)
+one_fails : (q : Option Settings → Bool) (ps : List (List ℕ)) → all_of q (map list_of ps) ≡ false → (p : List ℕ) × (Among p ps) × (q (list_of p) ≡ false)
 unfolding all_of
 one_fails q [] e = absurd (false≢true (sym e))
 one_fails q (p ∷ ps) e = go (q (list_of p)) refl e (one_fails q ps)
@@ -264,12 +266,12 @@ two_basics limits a b n u d =
       second = b;
       first_in = here;
       second_in = there here;
-      two = λ e. d (ap (λ (s : Settings). basic_in s) e);
+      two = λ e. d (ap (λ (s : Option Settings). basic_in s) e);
       apart = λ o. d o.basic_is;
     })
   where
     only : (q : List ℕ) → Among q (b ∷ []) → list_of a ≡ list_of q → ⊥
-    only q i e = d (ap (λ (s : Settings). basic_in s) (e ∙ ap list_of (alone q b i)))
+    only q i e = d (ap (λ (s : Option Settings). basic_in s) (e ∙ ap list_of (alone q b i)))
 
     each : (P : List ℕ → Type 0) → P a → P b → (p : List ℕ) → Among p (a ∷ b ∷ []) → P p
     each P x y p i = go (one_of_two p a b i)

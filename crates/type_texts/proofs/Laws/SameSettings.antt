@@ -1,4 +1,6 @@
 -- Two lists that can be read: when they are equal, and when they are one row, in words of their settings alone.
+use Rattle.std.specs.Prelude.{Option}
+use Rattle.std.specs.Option.{is_some}
 use mathlib.Core.Path.{◌≡◌, refl, ap, sym, ◌∙◌, subst}
 use mathlib.Core.Logic.{◌⊎◌, ◌≢◌, inl, inr}
 use mathlib.Core.List.{List, [], ◌∷◌}
@@ -21,7 +23,7 @@ pub data YearPair : ℕ → ℕ → Type 0 where
   of_row_lem : (x y : YearSetting) → row_of_year x ≡ row_of_year y → x ≢ y → YearPair (year_number x) (year_number y)
 
 -- "lists that differ only in Year, all of one row, no Year twice" (#103).
-pub record OnlyYears (s t : Settings) : Type 0 where
+pub record OnlyYears (s t : Option Settings) : Type 0 where
   pub basic_is : basic_in s ≡ basic_in t
   pub date_is : date_in s ≡ date_in t
   pub time_is : time_in s ≡ time_in t
@@ -34,31 +36,31 @@ eqb_same n = eq-eqb n n refl
 
 -- ---- The same settings.
 
-same_itself : (s : Settings) → equal_lists s s ≡ true
+same_itself : (s : Option Settings) → equal_lists s s ≡ true
 unfolding equal_lists same_but_year
 same_itself s =
     rw (eqb_same (basic_in s), eqb_same (date_in s), eqb_same (time_in s), eqb_same (zone_in s), eqb_same (interval_in s), eqb_same (year_in s))
 
 -- Lists with the same settings test as equal.
-pub same_are_equal : (s t : Settings) → s ≡ t → equal_lists s t ≡ true
-same_are_equal s t e = subst (λ (x : Settings). equal_lists s x ≡ true) e (same_itself s)
+pub same_are_equal : (s t : Option Settings) → s ≡ t → equal_lists s t ≡ true
+same_are_equal s t e = subst (λ (x : Option Settings). equal_lists s x ≡ true) e (same_itself s)
 
 -- A list that can be read is its six settings.
-six-settings : (ws : List (List ℕ)) (s : Settings) → ListOf ws s
+six-settings : (ws : List (List ℕ)) (s : Option Settings) → ListOf ws s
     → s ≡ settings (basic_in s ∷ date_in s ∷ year_in s ∷ time_in s ∷ zone_in s ∷ interval_in s ∷ [])
 six-settings ws s (a_date f y p e) = rw e
 six-settings ws s (a_time t h p e) = rw e
 six-settings ws s (a_date_time f t y h p e) = rw e
 six-settings ws s (a_duration p e) = rw e
 
-record SameButYear (s t : Settings) : Type 0 where
+record SameButYear (s t : Option Settings) : Type 0 where
   basic_same : basic_in s ≡ basic_in t
   date_same : date_in s ≡ date_in t
   time_same : time_in s ≡ time_in t
   zone_same : zone_in s ≡ zone_in t
   interval_same : interval_in s ≡ interval_in t
 
-but_year : (s t : Settings) → same_but_year s t ≡ true → SameButYear s t
+but_year : (s t : Option Settings) → same_but_year s t ≡ true → SameButYear s t
 unfolding same_but_year
 but_year s t e =
     let p = five_hold (eqb (basic_in s) (basic_in t)) (eqb (date_in s) (date_in t)) (eqb (time_in s) (time_in t)) (eqb (zone_in s) (zone_in t))
@@ -71,7 +73,7 @@ but_year s t e =
       interval_same = eqb-true _ _ p.4;
     }
 
-module _ (a b : List ℕ) (h : (list_of a).readable ≡ true) (k : (list_of b).readable ≡ true) where
+module _ (a b : List ℕ) (h : is_some (list_of a) ≡ true) (k : is_some (list_of b) ≡ true) where
   -- Two lists that can be read test as equal only where they have the same settings, in whatever order.
   pub equal_are_same : equal_lists (list_of a) (list_of b) ≡ true → list_of a ≡ list_of b
   unfolding equal_lists
@@ -90,18 +92,18 @@ module _ (a b : List ℕ) (h : (list_of a).readable ≡ true) (k : (list_of b).r
 -- ---- One row.
 
 -- The Year of a list that can be read: one where there is a date, and otherwise none.
-data YearOf (s : Settings) : Type 0 where
+data YearOf (s : Option Settings) : Type 0 where
   no_year : dated_list s ≡ false → year_in s ≡ 0 → YearOf s
   a_year : (y : YearSetting) → dated_list s ≡ true → year_in s ≡ year_number y → YearOf s
 
-year-of : (ws : List (List ℕ)) (s : Settings) → ListOf ws s → YearOf s
+year-of : (ws : List (List ℕ)) (s : Option Settings) → ListOf ws s → YearOf s
 unfolding dated_list
 year-of ws s (a_date f y p e) = rw e (a_year y refl refl)
 year-of ws s (a_time t h p e) = rw e (no_year refl refl)
 year-of ws s (a_date_time f t y h p e) = rw e (a_year y refl refl)
 year-of ws s (a_duration p e) = rw e (no_year refl refl)
 
-dated_same : (s t : Settings) → basic_in s ≡ basic_in t → dated_list s ≡ dated_list t
+dated_same : (s t : Option Settings) → basic_in s ≡ basic_in t → dated_list s ≡ dated_list t
 unfolding dated_list
 dated_same s t e = rw e
 
@@ -121,7 +123,7 @@ family_of : (m n : ℕ) → YearPair m n → eqb (row_number (row_of_year (year_
 family_of m n (of_row_lem x y e d) = rw (year_back x, year_back y) (eq-eqb (row_number (row_of_year x)) (row_number (row_of_year y)) (ap row_number e))
 
 -- Lists that differ only in Year, in two Years of one row, are one row.
-pub only_years_row : (s t : Settings) → OnlyYears s t → one_row s t ≡ true
+pub only_years_row : (s t : Option Settings) → OnlyYears s t → one_row s t ≡ true
 unfolding one_row same_but_year
 only_years_row s t o =
     rw (
@@ -133,14 +135,14 @@ only_years_row s t o =
       family_of _ _ o.years_are,
     )
 
-one-row_years : (s t : Settings) → YearOf s → YearOf t → basic_in s ≡ basic_in t → eqb (row_number (row_in s)) (row_number (row_in t)) ≡ true
+one-row_years : (s t : Option Settings) → YearOf s → YearOf t → basic_in s ≡ basic_in t → eqb (row_number (row_in s)) (row_number (row_in t)) ≡ true
     → (year_in s ≡ year_in t) ⊎ YearPair (year_in s) (year_in t)
 one-row_years s t (no_year b y) (no_year c z) e f = inl (y ∙ sym z)
 one-row_years s t (no_year b y) (a_year v c z) e f = absurd (false≢true (sym b ∙ dated_same s t e ∙ c))
 one-row_years s t (a_year u b y) (no_year c z) e f = absurd (false≢true (sym c ∙ sym (dated_same s t e) ∙ b))
 one-row_years s t (a_year u b y) (a_year v c z) e f = rw (y, z) (family u v (rw (y, z) at f))
 
-module _ (a b : List ℕ) (h : (list_of a).readable ≡ true) (k : (list_of b).readable ≡ true) where
+module _ (a b : List ℕ) (h : is_some (list_of a) ≡ true) (k : is_some (list_of b) ≡ true) where
   -- Two lists that can be read are one row only where they are the same, or differ only in Year, in two Years of one row.
   pub row_only_years : one_row (list_of a) (list_of b) ≡ true → (list_of a ≡ list_of b) ⊎ OnlyYears (list_of a) (list_of b)
   unfolding one_row equal_lists

@@ -1,23 +1,25 @@
 -- Nothing ill-formed is ever read.
+use Rattle.std.specs.Prelude.{Option, Some, None}
+use Rattle.std.specs.Option.{is_some, option_map, option_or}
+use Rattle.lists.specs.Lists.{numbers_in}
 use mathlib.Core.Path.{◌≡◌, refl, sym, ◌∙◌, subst}
 use mathlib.Core.List.{List, [], ◌∷◌, map}
 use mathlib.Core.Bool.{Bool, true, false, ◌&&◌, not, cond, and-eq-true_iff, false≢true}
 use Prim.Native.Nat.{ℕ, zero, suc, ◌+◌, ◌-◌, ◌*◌, ◌/◌, ◌<◌, ◌≤◌}
 use native.Mathlib.Omega.{arith}
-use lib.Dec.{eqb, ltb, leb}
+use lib.Dec.{eqb, leb}
 use lib.ListN.{length, get_or, set, take, length-set}
 use lib.Seq.{get_or-set_same, get_or-set_other}
 use borrow.Author.Tests.{leb-true, le-leb, eq-eqb, eqb-true, eqb-false, not-true}
 use Rattle.octets.specs.Octets.{bytes, eq_list}
 use Rattle.octets.specs.Pieces.{split_on}
-use Rattle.octets.proofs.Laws.Cases.{cond-le}
 use Rattle.types.specs.AnyTypes.{DURATION, carrying, dated_type, limited_to, timed_type, well_formed}
 use Rattle.types.specs.Types as Points
 use Rattle.types.specs.Types.{DATE, TIME-OF-DAY, DATE-TIME, placed, restricted, well_parts}
 use Rattle.types.specs.Years.{names, row_of_year, some_year, year_setting_at, year_number}
 use Rattle.types.proofs.Laws.Years.{some_named}
 use Rattle.types.specs.declared.years.YearSetting.{YearSetting}
-use Rattle.lists.specs.Words.{place_in, year_words, clock_words, fraction_words, with_digits, fraction_number, first_number, pair_of}
+use Rattle.lists.specs.Words.{place_in, year_words, clock_words, fraction_words, with_digits, is_digit_count, fraction_number, time_number, pair_of}
 use Rattle.lists.specs.Lists.{settings, none_yet, refused_list, add_pair, add_pairs, basic_in, date_in, year_in, time_in, zone_in, dated_list, timed_list, present_if}
 use Rattle.lists.specs.Lists.{interval_in, interval_list, complete, completed, list_of}
 use Rattle.type_texts.specs.TypeTexts.{all_of, distinct, joined, list_type, lists_of, member, one_row, point_type, row_in, time_at, type_of}
@@ -31,48 +33,56 @@ use Rattle.types.specs.declared.types.TypeRead.{TypeRead}
 use Rattle.lists.specs.declared.words.Pair.{Pair}
 use Rattle.lists.specs.declared.lists.Settings.{Settings}
 use Rattle.lists.proofs.Laws.Words.{place-in}
-use Rattle.lists.proofs.Laws.Lists.{every_pair, six_properties}
+use Rattle.lists.proofs.Laws.Lists.{OfPair, every_pair, six_properties}
 use Rattle.type_texts.proofs.Laws.Tests.{five_hold}
 
 -- ---- The numbers of a list's Year and Time.
 
-fraction-le : (l : List ℕ) → fraction_number l ≤ 99
+fraction-le : (l : List ℕ) (n : ℕ) → fraction_number l ≡ Some n → n ≤ 99
 unfolding fraction_number
-fraction-le l = go (leb 49 d && leb d 57) refl where
+fraction-le l n = go (is_digit_count d) refl where
   d : ℕ
   d = get_or l (length l - 1) 0
 
-  w : ℕ
-  w = place_in fraction_words (take (length l - 1) l)
+  digits : d ≤ 57 → (o : Option ℕ) → ((k : ℕ) → o ≡ Some k → k ≤ 3) → option_map (with_digits (d - 48)) o ≡ Some n → n ≤ 99
+  digits h None f e = cc
+  digits h (Some k) f e =
+      let q : (d - 48) * 10 + k ≡ n = cc in
+      let m : k ≤ 3 = f k refl in
+      omega arith
 
-  go : (t : Bool) → (leb 49 d && leb d 57) ≡ t → cond t (with_digits (d - 48) w) 0 ≤ 99
-  go true e =
+  go : (t : Bool) → is_digit_count d ≡ t → cond t (option_map (with_digits (d - 48)) (place_in fraction_words (take (length l - 1) l))) None ≡ Some n
+      → n ≤ 99
+  go true e h =
       let p : (leb 49 d ≡ true) × (leb d 57 ≡ true) = (and-eq-true_iff _ _).0 e in
-      let h : d ≤ 57 = leb-true d 57 p.1 in
-      let k : w ≤ 3 = place-in fraction_words (take (length l - 1) l) refl in
-      cond-le (eqb w 0) 0 ((d - 48) * 10 + w) 99 (omega arith) (omega arith)
-  go false e = omega arith
+      digits (leb-true d 57 p.1) (place_in fraction_words (take (length l - 1) l)) (λ k e. place-in fraction_words (take (length l - 1) l) e) h
+  go false e h = cc
+
+time-le : (l : List ℕ) (n : ℕ) → time_number l ≡ Some n → n ≤ 99
+time-le l n = go (place_in clock_words l) refl where
+  go : (o : Option ℕ) → place_in clock_words l ≡ o → option_or o (fraction_number l) ≡ Some n → n ≤ 99
+  go None e h = fraction-le l n h
+  go (Some k) e h =
+      let q : k ≡ n = cc in
+      let m : k ≤ 3 = place-in clock_words l e in
+      omega arith
 
 record InRange (p : Pair) : Type 0 where
   year : p.property ≡ 2 → p.setting ≤ 8
   time : p.property ≡ 3 → p.setting ≤ 99
 
-pair_in_range : (l : List ℕ) → InRange (pair_of l)
+pair_in_range : (l : List ℕ) → OfPair InRange (pair_of l)
 pair_in_range l =
     every_pair InRange l
-    (record { year = λ e. absurd (omega arith); time = λ e. absurd (omega arith) })
-    (record { year = λ e. absurd (omega arith); time = λ e. absurd (omega arith) })
-    (record { year = λ e. place-in year_words l refl; time = λ e. absurd (omega arith) })
-    (record { year = λ e. absurd (omega arith); time = λ e. time_le })
-    (record { year = λ e. absurd (omega arith); time = λ e. absurd (omega arith) })
-    (λ n. record { year = λ e. absurd (omega arith); time = λ e. absurd (omega arith) }) where
-      time_le : first_number (place_in clock_words l) (fraction_number l) ≤ 99
-      time_le =
-          let h : place_in clock_words l ≤ 3 = place-in clock_words l refl in
-          cond-le (eqb (place_in clock_words l) 0) (fraction_number l) (place_in clock_words l) 99 (fraction-le l) (omega arith)
+    (λ m e. record { year = λ z. absurd (omega arith); time = λ z. absurd (omega arith) })
+    (λ m e. record { year = λ z. absurd (omega arith); time = λ z. absurd (omega arith) })
+    (λ m e. record { year = λ z. place-in year_words l e; time = λ z. absurd (omega arith) })
+    (λ m e. record { year = λ z. absurd (omega arith); time = λ z. time-le l m e })
+    (λ m e. record { year = λ z. absurd (omega arith); time = λ z. absurd (omega arith) })
+    (λ m e. record { year = λ z. absurd (omega arith); time = λ z. absurd (omega arith) })
 
-record Bounded (s : Settings) : Type 0 where
-  size : length s.numbers ≡ 6
+record Bounded (s : Option Settings) : Type 0 where
+  size : length (numbers_in s) ≡ 6
   year : year_in s ≤ 8
   time : time_in s ≤ 99
 
@@ -82,40 +92,39 @@ set-le ns p v q n l h k = go (eqb p q) refl where
   go true e = let z : p ≡ q = eqb-true p q e in rw (← z, get_or-set_same ns p v 0 l) (h z)
   go false e = rw (get_or-set_other ns p q v 0 (λ z. eqb-false p q e (sym z))) k
 
-add_bounded : (s : Settings) (l : List ℕ) → Bounded s → Bounded (add_pair s (pair_of l))
+add_bounded : (s : Option Settings) (q : Option Pair) → OfPair InRange q → OfPair (λ p. p.property < 6) q → Bounded s → Bounded (add_pair s q)
 unfolding add_pair
-add_bounded s l b = go (s.readable && (ltb 0 p.setting && eqb (get_or s.numbers p.property 0) 0)) where
-  p : Pair
-  p = pair_of l
-
+add_bounded None q r k b = record { size = refl; year = omega arith; time = omega arith }
+add_bounded (Some s) None r k b = record { size = refl; year = omega arith; time = omega arith }
+add_bounded (Some s) (Some p) r k b = go (eqb (get_or s.numbers p.property 0) 0) where
   go : (t : Bool) → Bounded (cond t (settings (set s.numbers p.property p.setting)) refused_list)
   go true =
-      let h : p.property < length s.numbers = rw b.size (six_properties l) in
+      let h : p.property < length s.numbers = rw b.size (k p refl) in
       record {
         size = length-set s.numbers p.property p.setting ∙ b.size;
-        year = set-le s.numbers p.property p.setting 2 8 h (pair_in_range l).year b.year;
-        time = set-le s.numbers p.property p.setting 3 99 h (pair_in_range l).time b.time;
+        year = set-le s.numbers p.property p.setting 2 8 h (r p refl).year b.year;
+        time = set-le s.numbers p.property p.setting 3 99 h (r p refl).time b.time;
       }
   go false = record { size = refl; year = omega arith; time = omega arith }
 
-pairs_bounded : (s : Settings) (ws : List (List ℕ)) → Bounded s → Bounded (add_pairs s ws)
+pairs_bounded : (s : Option Settings) (ws : List (List ℕ)) → Bounded s → Bounded (add_pairs s ws)
 unfolding add_pairs
 pairs_bounded s [] b = b
-pairs_bounded s (w ∷ ws) b = pairs_bounded (add_pair s (pair_of w)) ws (add_bounded s w b)
+pairs_bounded s (w ∷ ws) b = pairs_bounded (add_pair s (pair_of w)) ws (add_bounded s (pair_of w) (pair_in_range w) (six_properties w) b)
 
 -- ---- A list that can be read is complete, and its numbers are in range.
 
-record Sound (s : Settings) : Type 0 where
+record Sound (s : Option Settings) : Type 0 where
   all : complete s ≡ true
   bounds : Bounded s
 
-list_sound : (l : List ℕ) → (list_of l).readable ≡ true → Sound (list_of l)
+list_sound : (l : List ℕ) → is_some (list_of l) ≡ true → Sound (list_of l)
 unfolding list_of completed
 list_sound l = go (complete s) refl where
-  s : Settings
+  s : Option Settings
   s = add_pairs (settings none_yet) (split_on 32 l)
 
-  go : (t : Bool) → complete s ≡ t → (cond t s refused_list).readable ≡ true → Sound (cond t s refused_list)
+  go : (t : Bool) → complete s ≡ t → is_some (cond t s refused_list) ≡ true → Sound (cond t s refused_list)
   go true e h = record { all = e; bounds = pairs_bounded (settings none_yet) (split_on 32 l) (record { size = refl; year = omega arith; time = omega arith }) }
   go false e h = absurd (false≢true h)
 
@@ -157,7 +166,7 @@ some-year n ys h k =
     some_named _ (year_setting_at n)
     (subst (λ (m : ℕ). names (years_of (row_of_year (year_setting_at n)) (m ∷ ys)) (year_setting_at n) ≡ true) e (first_named (year_setting_at n) ys))
 
-dated_year : (s : Settings) → complete s ≡ true → dated_list s ≡ true → 0 < year_in s
+dated_year : (s : Option Settings) → complete s ≡ true → dated_list s ≡ true → 0 < year_in s
 unfolding complete
 dated_year s c e =
     let p = (and-eq-true_iff _ (present_if (interval_list s) (interval_in s))).0 c in
@@ -171,7 +180,7 @@ digits-few : (t z : ℕ) → t ≤ 99 → leb (time_at t z).digits 9 ≡ true
 unfolding time_at
 digits-few t z h = le-leb (t / 10) 9 (omega arith)
 
-list_well-formed : (s : Settings) (ys : List ℕ) → Sound s → well_formed (list_type s (years_of (row_in s) (year_in s ∷ ys))) ≡ true
+list_well-formed : (s : Option Settings) (ys : List ℕ) → Sound s → well_formed (list_type s (years_of (row_in s) (year_in s ∷ ys))) ≡ true
 unfolding list_type point_type timed_list dated_list
 list_well-formed s ys h = go (eqb (basic_in s) 1) (eqb (basic_in s) 2) (eqb (basic_in s) 3) refl refl refl where
   year : dated_list s ≡ true → some_year (years_of (row_in s) (year_in s ∷ ys)) ≡ true
@@ -224,12 +233,12 @@ second true true c d e h = refl
 second true false c d e h = absurd (false≢true h)
 second false b c d e h = absurd (false≢true h)
 
-good_joined : (limits : Limits) (s : Settings) (r : List Settings) → (s.readable ≡ true → Sound s) → Good (joined limits (s ∷ r))
+good_joined : (limits : Limits) (s : Option Settings) (r : List (Option Settings)) → (is_some s ≡ true → Sound s) → Good (joined limits (s ∷ r))
 unfolding joined all_of usable
 good_joined limits s r h =
     good_cond (leb (length (s ∷ r)) most_lists && all_of (usable limits) (s ∷ r) && distinct (s ∷ r)) _ _
     (λ e.
-    let v : s.readable ≡ true = second (leb (length (s ∷ r)) most_lists) s.readable (placed limits (dated_list s) (timed_list s)) (all_of (usable limits) r)
+    let v : is_some s ≡ true = second (leb (length (s ∷ r)) most_lists) (is_some s) (placed limits (dated_list s) (timed_list s)) (all_of (usable limits) r)
     (distinct (s ∷ r)) e in
     good_cond (all_of (one_row s) r) _ _ (λ f. good_limited limits (list_type s (years_of (row_in s) (map year_in (s ∷ r)))) (list_well-formed s (map year_in r) (h v))) tt)
     tt

@@ -1,16 +1,17 @@
 -- The words of the base settings, by the settings of a type; and pieces are put together again.
+use Rattle.std.specs.Prelude.{Option, Some, None}
+use Rattle.std.specs.Option.{is_some}
 use mathlib.Core.Path.{◌≡◌, refl, ap, sym, ◌∙◌}
 use mathlib.Core.List.{List, [], ◌∷◌, ◌++◌, map}
-use mathlib.Core.Bool.{Bool, true, false, ◌&&◌, cond, false≢true}
-use Prim.Native.Nat.{ℕ, ◌+◌, ◌<◌, ◌≤◌}
+use mathlib.Core.Bool.{Bool, true, false, cond}
+use Prim.Native.Nat.{ℕ, ◌+◌, ◌≤◌}
 use native.Mathlib.Omega.{arith}
-use lib.Dec.{eqb, ltb}
-use lib.ListN.{get_or, set}
+use lib.Dec.{eqb}
 use borrow.Author.Tests.{eqb-true, ne_eqb}
 use Rattle.octets.specs.Octets.{bytes}
 use Rattle.octets.specs.Pieces.{split_on, with_first}
 use Rattle.lists.specs.Words.{pair, pair_of}
-use Rattle.lists.specs.Lists.{settings, refused_list, add_pair, add_pairs}
+use Rattle.lists.specs.Lists.{add_pair, add_pairs}
 use Rattle.lists.specs.declared.words.Pair.{Pair}
 use Rattle.lists.specs.declared.lists.Settings.{Settings}
 use Rattle.lists.proofs.Laws.Spelled as spelled
@@ -70,21 +71,18 @@ settings_word w p zone_LD = zone ZoneForm.LD
 settings_word w p interval_D = interval
 
 -- A text that is read as a setting is the word of that setting.
-pub setting_spelled : (w : List ℕ) → 0 < (pair_of w).setting → SettingWord w (pair_of w)
-setting_spelled w h = settings_word w (pair_of w) (spelled.word_spelled w h)
+pub setting_spelled : (w : List ℕ) (p : Pair) → pair_of w ≡ Some p → SettingWord w p
+setting_spelled w p e = settings_word w p (spelled.word_spelled w p e)
 
 -- ---- lists
 
-add_read : (s : Settings) (p : Pair) → (add_pair s p).readable ≡ true → s.readable ≡ true
+add_read : (s : Option Settings) (p : Option Pair) → is_some (add_pair s p) ≡ true → is_some s ≡ true
 unfolding add_pair
-add_read s p = go s.readable (ltb 0 p.setting && eqb (get_or s.numbers p.property 0) 0)
-  where
-    go : (a b : Bool) → (cond (a && b) (settings (set s.numbers p.property p.setting)) refused_list).readable ≡ true → a ≡ true
-    go true b h = refl
-    go false b h = absurd (false≢true h)
+add_read None p h = h
+add_read (Some s) p h = refl
 
 -- A list that can be read after a pair could be read before it.
-pub pairs_read : (s : Settings) (ws : List (List ℕ)) → (add_pairs s ws).readable ≡ true → s.readable ≡ true
+pub pairs_read : (s : Option Settings) (ws : List (List ℕ)) → is_some (add_pairs s ws) ≡ true → is_some s ≡ true
 unfolding add_pairs
 pairs_read s [] h = h
 pairs_read s (w ∷ ws) h = add_read s (pair_of w) (pairs_read (add_pair s (pair_of w)) ws h)

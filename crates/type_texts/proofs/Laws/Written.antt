@@ -1,4 +1,5 @@
 -- From the words of a type to its settings, its lists and the type.
+use Rattle.std.specs.Prelude.{Option, Some}
 use mathlib.Core.Path.{◌≡◌, refl, ap, ap₂, sym, ◌∙◌, subst}
 use mathlib.Core.List.{List, [], ◌∷◌, ◌++◌, map, Permᴰ}
 use mathlib.Core.Bool.{Bool, true, false, ◌&&◌, ◌||◌, not, cond, and-eq-true_iff, false≢true}
@@ -6,7 +7,7 @@ use Prim.Native.Nat.{ℕ, suc, ◌+◌, ◌*◌, ◌/◌, ◌%◌, ◌<◌, ◌�
 use native.Mathlib.Omega.{arith}
 use lib.Dec.{eqb, leb}
 use lib.ListN.{length, drop, length-map}
-use borrow.Author.Tests.{le-leb, lt-ltb, ne_eqb, eq-eqb, eqb-true, eqb-false, not-true}
+use borrow.Author.Tests.{le-leb, ne_eqb, eq-eqb, eqb-true, eqb-false, not-true}
 use Rattle.octets.specs.Octets.{bytes, eq_list}
 use Rattle.types.specs.Numbers.{date_number, date_at, clock_number, clock_at, zone_number, zone_at}
 use Rattle.types.specs.Types.{unlimited_date, unlimited_time, listed, has_date, has_time, placed}
@@ -43,18 +44,18 @@ use Rattle.lists.proofs.Laws.Order.{pairs_perm}
 -- ---- The words give the numbers of the settings, and the numbers give the settings back.
 
 basic_pairs :
-    (pair_of (bytes "Basic=Date") ≡ pair 0 1)
-    × (pair_of (bytes "Basic=Time") ≡ pair 0 2)
-    × (pair_of (bytes "Basic=Date-Time") ≡ pair 0 3)
-    × (pair_of (bytes "Basic=Interval") ≡ pair 0 4)
+    (pair_of (bytes "Basic=Date") ≡ Some (pair 0 1))
+    × (pair_of (bytes "Basic=Time") ≡ Some (pair 0 2))
+    × (pair_of (bytes "Basic=Date-Time") ≡ Some (pair 0 3))
+    × (pair_of (bytes "Basic=Interval") ≡ Some (pair 0 4))
 unfolding pair_of place_from eq_list
 basic_pairs = (refl, refl, refl, refl)
 
-interval_pair : pair_of (bytes "Interval-type=D") ≡ pair 5 1
+interval_pair : pair_of (bytes "Interval-type=D") ≡ Some (pair 5 1)
 interval_pair = word_read _ _ interval_D
 
 record DateSetting (f : DateForm) : Type 0 where
-  word : pair_of (date_word f) ≡ pair 1 (date_number f)
+  word : pair_of (date_word f) ≡ Some (pair 1 (date_number f))
   some : 0 < date_number f
   back : date_at (date_number f) ≡ f
 
@@ -68,7 +69,7 @@ date_setting DateForm.YW = record { word = refl; some = omega arith; back = refl
 date_setting DateForm.YWD = record { word = refl; some = omega arith; back = refl }
 
 record YearNumber (y : YearSetting) : Type 0 where
-  word : pair_of (bytes (year_word y)) ≡ pair 2 (year_number y)
+  word : pair_of (bytes (year_word y)) ≡ Some (pair 2 (year_number y))
   some : 0 < year_number y
 
 some_number : (y : YearSetting) → 0 < year_number y
@@ -85,7 +86,7 @@ year_setting : (y : YearSetting) → YearNumber y
 year_setting y = record { word = word_read _ _ (year y); some = some_number y }
 
 record ZoneSetting (z : ZoneForm) : Type 0 where
-  word : pair_of (zone_word z) ≡ pair 4 (zone_number z)
+  word : pair_of (zone_word z) ≡ Some (pair 4 (zone_number z))
   some : 0 < zone_number z
   back : zone_at (zone_number z) ≡ z
 
@@ -95,13 +96,13 @@ zone_setting ZoneForm.L = record { word = refl; some = omega arith; back = refl 
 zone_setting ZoneForm.Z = record { word = refl; some = omega arith; back = refl }
 zone_setting ZoneForm.LD = record { word = refl; some = omega arith; back = refl }
 
-fraction-pair : (c : ClockForm) (n : ℕ) → 1 ≤ n → n ≤ 9 → pair_of (clock_word c ++ bytes "F" ++ (48 + n) ∷ []) ≡ pair 3 (n * 10 + clock_number c)
+fraction-pair : (c : ClockForm) (n : ℕ) → 1 ≤ n → n ≤ 9 → pair_of (clock_word c ++ bytes "F" ++ (48 + n) ∷ []) ≡ Some (pair 3 (n * 10 + clock_number c))
 fraction-pair ClockForm.H n h k = word_read _ _ (time_HF n h k)
 fraction-pair ClockForm.HM n h k = word_read _ _ (time_HMF n h k)
 fraction-pair ClockForm.HMS n h k = word_read _ _ (time_HMSF n h k)
 
 record ClockSetting (c : ClockForm) : Type 0 where
-  word : pair_of (clock_word c) ≡ pair 3 (clock_number c)
+  word : pair_of (clock_word c) ≡ Some (pair 3 (clock_number c))
   some : 0 < clock_number c
   few : clock_number c ≤ 3
   back : clock_at (clock_number c) ≡ c
@@ -116,14 +117,14 @@ clock_setting ClockForm.HMS = record { word = refl; some = omega arith; few = om
 abbrev pub time_code : ClockForm → ℕ → ℕ
 time_code c n = n * 10 + clock_number c
 
-time-word : (c : ClockForm) (n : ℕ) → n ≤ 9 → pair_of (time_word c n) ≡ pair 3 (time_code c n)
+time-word : (c : ClockForm) (n : ℕ) → n ≤ 9 → pair_of (time_word c n) ≡ Some (pair 3 (time_code c n))
 time-word c n k = go (eqb n 0) refl where
   go : (t : Bool) → eqb n 0 ≡ t →
-      pair_of (cond t (clock_word c) (clock_word c ++ bytes "F" ++ (48 + n) ∷ [])) ≡ pair 3 (time_code c n)
+      pair_of (cond t (clock_word c) (clock_word c ++ bytes "F" ++ (48 + n) ∷ [])) ≡ Some (pair 3 (time_code c n))
   go true e =
       let h : n ≡ 0 = eqb-true n 0 e in
       let z : clock_number c ≡ time_code c n = omega arith in
-      (clock_setting c).word ∙ ap (pair 3) z
+      (clock_setting c).word ∙ ap (λ (k : ℕ). Some (pair 3 k)) z
   go false e =
       let h : n ≡ 0 → ⊥ = eqb-false n 0 e in
       fraction-pair c n (omega arith) k
@@ -140,19 +141,19 @@ time_back t =
 -- ---- One list: its pairs give its settings.
 
 -- The settings of a list with a date.
-abbrev pub date_list : DateForm → YearSetting → Settings
+abbrev pub date_list : DateForm → YearSetting → Option Settings
 date_list f y = settings (1 ∷ date_number f ∷ year_number y ∷ 0 ∷ 0 ∷ 0 ∷ [])
 
 -- The settings of a list with a time.
-abbrev pub time_list : TimeForm → Settings
+abbrev pub time_list : TimeForm → Option Settings
 time_list t = settings (2 ∷ 0 ∷ 0 ∷ time_code t.clock t.digits ∷ zone_number t.zone ∷ 0 ∷ [])
 
 -- The settings of a list with a date and a time.
-abbrev pub date_time_list : DateForm → TimeForm → YearSetting → Settings
+abbrev pub date_time_list : DateForm → TimeForm → YearSetting → Option Settings
 date_time_list f t y = settings (3 ∷ date_number f ∷ year_number y ∷ time_code t.clock t.digits ∷ zone_number t.zone ∷ 0 ∷ [])
 
 -- The settings of a list of durations.
-abbrev pub duration_list : Settings
+abbrev pub duration_list : Option Settings
 duration_list = settings (4 ∷ 0 ∷ 0 ∷ 0 ∷ 0 ∷ 1 ∷ [])
 
 not-zero : (n : ℕ) → 0 < n → eqb n 0 ≡ false
@@ -164,7 +165,7 @@ unfolding completed complete dated_list timed_list interval_list add_pairs add_p
 date-list f y =
     let d = date_setting f in
     let v = year_setting y in
-    rw (basic_pairs.0, d.word, v.word, lt-ltb 0 _ d.some, lt-ltb 0 _ v.some, not-zero _ d.some, not-zero _ v.some)
+    rw (basic_pairs.0, d.word, v.word, not-zero _ d.some, not-zero _ v.some)
 
 -- The pairs of a list with a time give its settings.
 pub time-list : (t : TimeForm) → t.digits ≤ 9 → completed (add_pairs (settings none_yet) (time_pairs t)) ≡ time_list t
@@ -172,7 +173,7 @@ unfolding completed complete dated_list timed_list interval_list add_pairs add_p
 time-list t k =
     let s : 0 < time_code t.clock t.digits = omega (arith, (clock_setting t.clock).some) in
     let z = zone_setting t.zone in
-    rw (basic_pairs.1, time-word t.clock t.digits k, z.word, lt-ltb 0 _ s, lt-ltb 0 _ z.some, not-zero _ s, not-zero _ z.some)
+    rw (basic_pairs.1, time-word t.clock t.digits k, z.word, not-zero _ s, not-zero _ z.some)
 
 -- The pairs of a list with a date and a time give its settings.
 pub date-time-list : (f : DateForm) (t : TimeForm) → t.digits ≤ 9 → (y : YearSetting) →
@@ -189,10 +190,6 @@ date-time-list f t k y =
       v.word,
       time-word t.clock t.digits k,
       z.word,
-      lt-ltb 0 _ d.some,
-      lt-ltb 0 _ v.some,
-      lt-ltb 0 _ s,
-      lt-ltb 0 _ z.some,
       not-zero _ d.some,
       not-zero _ v.some,
       not-zero _ s,
@@ -266,12 +263,12 @@ time_is_word c n k = go c (eqb n 0) where
   go ClockForm.HMS false = rw (ne_eqb (48 + n) 32 (λ z. omega arith), ne_eqb (48 + n) 124 (λ z. omega arith))
 
 -- The text of a list: it is read as the list, has no bar, and has an equals sign.
-pub record ListText (ws : List (List ℕ)) (s : Settings) : Type 0 where
+pub record ListText (ws : List (List ℕ)) (s : Option Settings) : Type 0 where
   pub reads : list_of (join_with 32 ws) ≡ s
   pub bar : lacks 124 (join_with 32 ws) ≡ true
   pub equals : lacks 61 (join_with 32 ws) ≡ false
 
-module _ (vs : List (List ℕ)) (s : Settings) (some : 0 < length vs) (words : all_of is_word vs ≡ true) (read : completed (add_pairs (settings none_yet) vs) ≡ s)
+module _ (vs : List (List ℕ)) (s : Option Settings) (some : 0 < length vs) (words : all_of is_word vs ≡ true) (read : completed (add_pairs (settings none_yet) vs) ≡ s)
   where
     word_parts : (w : List ℕ) → is_word w ≡ true → (lacks 32 w ≡ true) × (lacks 124 w ≡ true) × (lacks 61 w ≡ false)
     unfolding is_word
@@ -325,7 +322,7 @@ some_lists limits (ws ∷ wss) h b q =
     let e : lacks 61 (join_with 124 (join_with 32 ws ∷ map (join_with 32) wss)) ≡ false = has_join 61 124 (join_with 32 ws) (map (join_with 32) wss) n in
     no_name limits 61 _ refl e ∙ rw (split_join 124 (join_with 32 ws) (map (join_with 32) wss) refl b)
 
-module _ (f : YearSetting → List (List ℕ)) (g : YearSetting → Settings) (k : (y : YearSetting) (ws : List (List ℕ)) → Permᴰ ws (f y) → ListText ws (g y))
+module _ (f : YearSetting → List (List ℕ)) (g : YearSetting → Option Settings) (k : (y : YearSetting) (ws : List (List ℕ)) → Permᴰ ws (f y) → ListText ws (g y))
   where
     lists_read : (ys : List YearSetting) {wss : List (List (List ℕ))} → Arranged wss (map f ys) →
         map list_of (map (join_with 32) wss) ≡ map g ys
@@ -358,7 +355,7 @@ module _ (f : YearSetting → List (List ℕ)) (g : YearSetting → Settings) (k
 -- ---- The lists of a type make the type.
 
 -- A list by its numbers, the Year's last.
-abbrev pub list_at : (b d t z i y : ℕ) → Settings
+abbrev pub list_at : (b d t z i y : ℕ) → Option Settings
 list_at b d t z i y = settings (b ∷ d ∷ y ∷ t ∷ z ∷ i ∷ [])
 
 -- Whether limits have their place in a list with this Basic.
@@ -374,7 +371,7 @@ self n = eq-eqb n n refl
 -- ---- Lists that differ in Year alone.
 
 module _ (limits : Limits) (b d t z i : ℕ) where
-  abbrev at : ℕ → Settings
+  abbrev at : ℕ → Option Settings
   at y = list_at b d t z i y
 
   equal_years : (y x : ℕ) → equal_lists (at y) (at x) ≡ eqb y x
@@ -533,7 +530,7 @@ some_named years h = go (named_years years) refl
     go (y ∷ ys) e = (y, ys, e)
 
 module _ (limits : Limits) (b d t z : ℕ) (k : Bool) (e : placed_at limits b ≡ k) (years : Years) (h : some_year years ≡ true) where
-  abbrev list_of_year : YearSetting → Settings
+  abbrev list_of_year : YearSetting → Option Settings
   list_of_year y = list_at b d t z 0 (year_number y)
 
   numbers-first : (y : YearSetting) × (ys : List YearSetting) × (named_years years ≡ y ∷ ys)
@@ -556,7 +553,7 @@ module _ (limits : Limits) (b d t z : ℕ) (k : Bool) (e : placed_at limits b �
     where
       fused : (l : List YearSetting) → map list_of_year l ≡ map (list_at b d t z 0) (map year_number l)
       fused [] = refl
-      fused (x ∷ l) = ap (λ (r : List Settings). list_of_year x ∷ r) (fused l)
+      fused (x ∷ l) = ap (λ (r : List (Option Settings)). list_of_year x ∷ r) (fused l)
 
 one-joined : (limits : Limits) (b d t z i : ℕ) (k : Bool) → placed_at limits b ≡ k →
     joined limits (list_at b d t z i 0 ∷ []) ≡ where_so k (limited_to limits (list_type (list_at b d t z i 0) (years_of (row_of_year (year_setting_at 0)) (0 ∷ []))))

@@ -1,6 +1,7 @@
 -- Types of durations.
 use mathlib.Core.Path.{◌≡◌, refl, ap, sym}
 use mathlib.Core.Bool.{Bool, true, false}
+use Rattle.answers.specs.declared.refusals.Refusal.{Refusal}
 use Rattle.types.specs.AnyTypes.{duration_type, found_type, fraction_digits, limits_of}
 use Rattle.types.specs.Types as Points
 use Rattle.types.specs.Types.{no_limits}
@@ -32,8 +33,8 @@ point-digits t = refl
 abbrev pub type_read : TypeFound → TypeRead
 type_read (TypeFound.Point t) = TypeRead.«Type» (AnyType.Point t)
 type_read (TypeFound.Duration listed) = TypeRead.«Type» (duration_type listed)
-type_read (TypeFound.NoType true) = TypeRead.NoRow
-type_read (TypeFound.NoType false) = TypeRead.Unreadable
+type_read (TypeFound.NoType Refusal.Rows) = TypeRead.NoRow
+type_read (TypeFound.NoType why) = TypeRead.Unreadable
 
 -- What is found is what a type's text and its limits give, and nothing is lost.
 pub found_back : (r : TypeRead) {f : TypeFound} → f ≡ found_type r → r ≡ type_read f

@@ -1,5 +1,7 @@
 -- Which types are well-formed: those that settings or the name of a useful time type can give, under any limits, and no others.
+use Rattle.std.specs.Prelude.{Option, None}
 use mathlib.Core.Path.{◌≡◌, refl}
+use Rattle.calendar.specs.declared.years.Year.{Year}
 use mathlib.Core.Bool.{Bool, true, false}
 use Prim.Native.Nat.{ℕ, ◌≤◌}
 use native.Mathlib.Omega.{arith}
@@ -17,7 +19,6 @@ use Rattle.types.specs.declared.types.DateType.{DateType}
 use Rattle.types.specs.declared.types.Name.{Name}
 use Rattle.types.specs.declared.types.Parts.{Parts}
 use Rattle.types.specs.declared.types.TimeType.{TimeType}
-use Rattle.types.specs.declared.types.Window.{Window}
 use Rattle.types.specs.declared.years.YearSetting.{YearSetting}
 use Rattle.types.specs.declared.years.Years.{Years}
 use Rattle.types.specs.declared.types.«Type».{«Type»}
@@ -33,9 +34,9 @@ pub data Givable : AnyType → Type 0 where
   time-list : (t : TimeType) → t.form.digits ≤ 9 → Givable (AnyType.Point (listed (Parts.Time t)))
   date-time-list : (d : DateType) (t : TimeType) → SomeYear d.years → t.form.digits ≤ 9 → Givable (AnyType.Point (listed (Parts.DateTime d t)))
   duration-list : Givable AnyType.ListedDuration
-  DATE-named : (w : Window) → Givable (AnyType.Point («Type».Date w))
+  DATE-named : (w : Option (Year × Year)) → Givable (AnyType.Point («Type».Date w))
   TIME-OF-DAY-named : (h : Bool) → Givable (AnyType.Point («Type».TimeOfDay h))
-  DATE-TIME-named : (w : Window) (h : Bool) → Givable (AnyType.Point («Type».DateTime w h))
+  DATE-TIME-named : (w : Option (Year × Year)) (h : Bool) → Givable (AnyType.Point («Type».DateTime w h))
   DURATION-named : Givable AnyType.Duration
 
 -- ---- what is given is well-formed
@@ -74,7 +75,7 @@ well-settings («Type».DateTime w x) h = refl
 -- ---- names
 
 -- "YMD with Year=Basic", whatever the restriction.
-abbrev ymd_in : Window → DateType
+abbrev ymd_in : Option (Year × Year) → DateType
 ymd_in w = record { form = DateForm.YMD; years = Years.Plain (record { basic = true; proleptic = false }); window = w }
 
 -- "HMS with L", whatever the restriction.
@@ -82,17 +83,17 @@ abbrev hms_with : Bool → TimeType
 hms_with h = record { form = record { clock = ClockForm.HMS; digits = 0; zone = ZoneForm.L }; hour24 = h }
 
 -- "YMD with Year=Basic, HMS with L, and both together": the settings that the names stand for, whatever the restrictions.
-pub DATE-settings : (w : Window) → parts_of («Type».Date w) ≡ Parts.Date (ymd_in w)
+pub DATE-settings : (w : Option (Year × Year)) → parts_of («Type».Date w) ≡ Parts.Date (ymd_in w)
 DATE-settings w = refl
 
 pub TIME-OF-DAY-settings : (h : Bool) → parts_of («Type».TimeOfDay h) ≡ Parts.Time (hms_with h)
 TIME-OF-DAY-settings h = refl
 
-pub DATE-TIME-settings : (w : Window) (h : Bool) → parts_of («Type».DateTime w h) ≡ Parts.DateTime (ymd_in w) (hms_with h)
+pub DATE-TIME-settings : (w : Option (Year × Year)) (h : Bool) → parts_of («Type».DateTime w h) ≡ Parts.DateTime (ymd_in w) (hms_with h)
 DATE-TIME-settings w h = refl
 
 -- A type of a name is told apart by it; settings that are listed have none.
-pub names_told : (p : Parts) (w : Window) (h : Bool)
+pub names_told : (p : Parts) (w : Option (Year × Year)) (h : Bool)
     → (name_of (AnyType.Point (listed p)) ≡ Name.Listed)
     × (name_of (AnyType.Point («Type».Date w)) ≡ Name.Date)
     × (name_of (AnyType.Point («Type».TimeOfDay h)) ≡ Name.TimeOfDay)
@@ -112,8 +113,8 @@ DURATION-only AnyType.ListedDuration e = absurd (let z : ◌≡◌ {A = ℕ} 0 1
 
 -- The types DATE, TIME-OF-DAY, DATE-TIME and DURATION are those of that name, without a restriction.
 pub ready_named :
-    (DATE ≡ «Type».Date Window.Every)
+    (DATE ≡ «Type».Date None)
     × (TIME-OF-DAY ≡ «Type».TimeOfDay true)
-    × (DATE-TIME ≡ «Type».DateTime Window.Every true)
+    × (DATE-TIME ≡ «Type».DateTime None true)
     × (DURATION ≡ AnyType.Duration)
 ready_named = (refl, refl, refl, refl)

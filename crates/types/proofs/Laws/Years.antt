@@ -2,9 +2,12 @@
 use mathlib.Core.Path.{◌≡◌, refl, ap}
 use mathlib.Core.Bool.{Bool, true, false, ◌||◌, or-true, or-false, false≢true}
 use mathlib.Core.List.{List, [], ◌∷◌}
-use Rattle.types.specs.Years.{any_of, names, row_of_year, some_year, year_setting_at, year_number, year_settings, years_row}
+use lib.Dec.{eqb}
+use Rattle.types.specs.Years.{any_of, names, row_number, row_of_year, some_year, year_setting_at, year_number, year_settings, years_row}
+use Rattle.types.specs.contracts.years.YearRowPartialEq.TheImpl as rows
 use Rattle.types.specs.declared.years.PlainYears.{PlainYears}
 use Rattle.types.specs.declared.years.SignedYears.{SignedYears}
+use Rattle.types.specs.declared.years.YearRow.{YearRow}
 use Rattle.types.specs.declared.years.YearSetting.{YearSetting}
 use Rattle.types.specs.declared.years.Years.{Years}
 
@@ -21,6 +24,13 @@ year_back YearSetting.L6 = refl
 year_back YearSetting.L7 = refl
 year_back YearSetting.L8 = refl
 year_back YearSetting.L9 = refl
+
+-- Two rows are one exactly where their numbers are.
+pub row_test : (a b : YearRow) → (rows.ghosts).eq a b ≡ eqb (row_number a) (row_number b)
+row_test YearRow.Year YearRow.Year = refl
+row_test YearRow.Year YearRow.AnyYear = refl
+row_test YearRow.AnyYear YearRow.Year = refl
+row_test YearRow.AnyYear YearRow.AnyYear = refl
 
 -- The Year settings that a type names are of its row.
 pub named_row : (years : Years) (y : YearSetting) → names years y ≡ true → row_of_year y ≡ years_row years
@@ -78,7 +88,3 @@ some_plain y = ap (λ (b : Bool). y.basic || b) (or-false y.proleptic)
 pub some_signed : (y : SignedYears) → some_year (Years.Signed y) ≡ y.negative || (y.five || (y.six || (y.seven || (y.eight || y.nine))))
 unfolding some_year
 some_signed y = ap (λ (b : Bool). y.negative || (y.five || (y.six || (y.seven || (y.eight || b))))) (or-false y.nine)
-
-pub last_signed : (y : SignedYears) → y.negative ≡ false → y.five ≡ false → y.six ≡ false → y.seven ≡ false → y.eight ≡ false
-    → y.nine ≡ some_year (Years.Signed y)
-last_signed y a b d e f = rw (some_signed y, a, b, d, e, f)

@@ -16,9 +16,7 @@ use Rattle.fields.proofs.Laws.Readings.{run_bind}
 use Rattle.durations.specs.Parts.{Part, present, no_fraction, number_in as number_of, numbers}
 use Rattle.durations.specs.Fields.{roots}
 use Rattle.durations.specs.Readings.{read_extended, read_numbers}
-use Rattle.unpacking.specs.Steps.{rest}
-use Rattle.unpacking.specs.declared.duration.NumbersRead.{NumbersRead}
-use Rattle.unpacking.specs.Durations.{NumbersAfter, read_place, bits_in, part_of, parts_from, after_presences}
+use Rattle.unpacking.specs.Durations.{read_place, bits_in, part_of, parts_from}
 
 -- ---- the numbers, place by place
 
@@ -32,7 +30,7 @@ number_tested false n rs bs t = refl
 -- One component by its number.
 one_number : (r b : ℕ) (rs bs : List ℕ) (s : BitString) → run (read_numbers (r ∷ rs) (b ∷ bs)) s
     ≡ onward (run (read_place r b) s) (λ n t. onward (run (read_numbers rs bs) t) (λ ps u. found (part_of b n ∷ ps) u))
-unfolding read_numbers read_place run
+unfolding read_numbers run
 one_number r zero rs bs s = run_bind (read_numbers rs bs) _ s
 one_number r (suc b) rs bs s =
     run_bind (read_extended 0 r) _ s ∙ after (run (read_extended 0 r) s)
@@ -64,7 +62,7 @@ numbers_more (q ∷ ps) p = ap (λ (ns : List ℕ). number_of q ∷ ns) (numbers
 
 -- A number that is read stands for its component; where that is not present, it is 0.
 number_is : (r b n : ℕ) (s t : BitString) → run (read_place r b) s ≡ found n t → number_of (part_of b n) ≡ n
-unfolding read_place run
+unfolding run
 number_is r zero n s t e = found-value e
 number_is r (suc b) n s t e = refl
 
@@ -125,7 +123,8 @@ values_start bs ns = refl
 
 -- After the last place nothing is left.
 pub numbers-end : (o : ℕ) (ns : List ℕ) → length ns ≡ 7 → (s : BitString)
-    → onward (run (read_numbers (drop 7 roots) (drop 7 (bits_in o))) s) (λ ps u. found (parts_to 7 (bits_in o) ns ++ ps) u) ≡ found (parts_from (bits_in o) ns) s
+    → onward (run (read_numbers (drop 7 roots) (drop 7 (bits_in o))) s) (λ ps u. found (parts_to 7 (bits_in o) ns ++ ps) u)
+    ≡ found (parts_from (bits_in o) ns) s
 unfolding read_numbers run
 numbers-end o ns l s =
     let t : take 7 ns ≡ ns = take_all 7 ns (omega arith) in
@@ -135,15 +134,6 @@ pub values-end : (o : ℕ) (ns : List ℕ) → length ns ≡ 7 → numbers (part
 values-end o ns l e =
     let t : take 7 ns ≡ ns = take_all 7 ns (omega arith) in
     sym (ap (λ (ms : List ℕ). numbers (parts_from (bits_in o) ms)) t) ∙ e ∙ t
-
--- Numbers that could be read, and that could not.
-module _ {s : List ℕ} {o : ℕ} {r : NumbersRead} (n : NumbersAfter s o r) where
-  pub numbers-found : r.readable ≡ true
-      → after_presences s (read_numbers roots (bits_in o)) ≡ found (parts_from (bits_in o) r.values) (rest s r.at)
-  numbers-found h = sym (rw h at n.is)
-
-  pub numbers_lost : r.readable ≡ false → after_presences s (read_numbers roots (bits_in o)) ≡ nothing
-  numbers_lost h = sym (rw h at n.is)
 
 -- The presence bit at a place.
 bit_at : (o i : ℕ) → i < 7 → o / 2 ^ (7 - i) % 2 ≡ get_or (bits_in o) i 0
@@ -156,7 +146,7 @@ bit_at o (suc (suc (suc (suc (suc zero))))) h = refl
 bit_at o (suc (suc (suc (suc (suc (suc zero)))))) h = refl
 bit_at o (suc (suc (suc (suc (suc (suc (suc i))))))) h = absurd (omega arith)
 
--- What is read by the code's bit is read by the presence bit at the place.
-pub by_bit : (o i r : ℕ) → i < 7 → (s : BitString) {m : Found Bool ℕ} → run (read_place r (o / 2 ^ (7 - i) % 2)) s ≡ m
-    → run (read_place r (get_or (bits_in o) i 0)) s ≡ m
-by_bit o i r h s e = ap (λ (b : ℕ). run (read_place r b) s) (sym (bit_at o i h)) ∙ e
+-- What is read by the code's range and bit is read by the root and the presence bit at the place.
+pub by_place : (o i r : ℕ) → r ≡ get_or roots i 0 → i < 7 → (s : BitString) {m : Found Bool ℕ}
+    → m ≡ run (read_place r (o / 2 ^ (7 - i) % 2)) s → run (read_place (get_or roots i 0) (get_or (bits_in o) i 0)) s ≡ m
+by_place o i r e h s v = rw (← e, ← bit_at o i h) (sym v)

@@ -1,12 +1,11 @@
 -- What octets give, by what the code has read.
+use Rattle.std.specs.Prelude.{Some, None, slice_get}
 use mathlib.Core.Path.{◌≡◌, refl, sym, ap, ◌∙◌}
 use mathlib.Core.Bool.{Bool, true, false, ◌||◌, not, cond, false≢true}
 use mathlib.Core.List.{List, [], ◌∷◌}
-use mathlib.Core.Option.{some, none}
-use Prim.Native.Nat.{ℕ, ◌%◌, ◌<◌}
+use Prim.Native.Nat.{ℕ, ◌%◌}
 use native.Mathlib.Omega.{arith}
 use lib.Dec.{eqb}
-use lib.ListN.{length, get_or}
 use lib.Seq.{drop_at}
 use Rattle.octets.specs.Found.{Found, found, nothing, onward, of_found}
 use Rattle.octets.proofs.Laws.Cases.{by_test, both}
@@ -31,31 +30,32 @@ use Rattle.unpacking.proofs.Laws.Presences.{octet_first, no_octet}
 after : List ℕ → ℕ → Reading Duration
 after bs x = read_numbers roots bs >>= λ ps. read_tail x >>= λ t. require (well_made ps) (give (duration_of (ended_by t ps)))
 
-fields_after : (s : List ℕ) → 0 < length s → run read_fields (unpacked s) ≡ after_presences s (after (bits_in (get_or s 0 0)) (get_or s 0 0 % 2))
+fields_after : (s : List ℕ) (o : ℕ) → Some o ≡ slice_get s 0 → run read_fields (unpacked s) ≡ after_presences s (after (bits_in o) (o % 2))
 unfolding read_fields after unpacked
-fields_after [] h = absurd (omega arith)
-fields_after (o ∷ os) h =
-    octet_first after o (unpacked os) ∙ ap (run (after (bits_in o) (o % 2))) (sym (drop_at (bits_of 8 o) (unpacked os) 8 (length-bits 8 o)))
+fields_after [] o h = absurd (let z : ◌≡◌ {A = ℕ} 0 1 = cc in omega arith)
+fields_after (p ∷ os) o h =
+    let e : o ≡ p = cc in
+    rw e (octet_first after p (unpacked os) ∙ ap (run (after (bits_in p) (p % 2))) (sym (drop_at (bits_of 8 p) (unpacked os) 8 (length-bits 8 p))))
 
 -- No octet gives nothing.
-pub duration_empty : (s : List ℕ) → length s ≡ 0 → duration_in_octets s ≡ none
+pub duration_empty : (s : List ℕ) → None ≡ slice_get s 0 → duration_in_octets s ≡ None
 unfolding duration_in_octets read_fields unpacked
 duration_empty [] h = ap of_found (no_octet after')
   where
     after' : List ℕ → ℕ → Reading Duration
     after' bs x = read_numbers roots bs >>= λ ps. read_tail x >>= λ t. require (well_made ps) (give (duration_of (ended_by t ps)))
-duration_empty (o ∷ os) h = absurd (omega arith)
+duration_empty (o ∷ os) h = absurd (let z : ◌≡◌ {A = ℕ} 0 1 = cc in omega arith)
 
-module _ (s : List ℕ) (o : ℕ) (is : o ≡ get_or s 0 0) (some_octet : 0 < length s) where
+module _ (s : List ℕ) (o : ℕ) (is : Some o ≡ slice_get s 0) where
   by_numbers : {m : Found Bool (List Part)} → after_presences s (read_numbers roots (bits_in o)) ≡ m
       → duration_in_octets s ≡ of_found (onward m (λ ps. run (read_tail (o % 2) >>= λ t. require (well_made ps) (give (duration_of (ended_by t ps))))))
   unfolding duration_in_octets after
   by_numbers e =
-      rw (fields_after s some_octet, ← is)
+      rw (fields_after s o is)
       (ap of_found (run_bind (read_numbers roots (bits_in o)) (λ ps. read_tail (o % 2) >>= λ t. require (well_made ps) (give (duration_of (ended_by t ps)))) _
       ∙ ap (λ m. onward m (λ ps. run (read_tail (o % 2) >>= λ t. require (well_made ps) (give (duration_of (ended_by t ps)))))) e))
 
-  pub duration_unnumbered : after_presences s (read_numbers roots (bits_in o)) ≡ nothing → duration_in_octets s ≡ none
+  pub duration_unnumbered : after_presences s (read_numbers roots (bits_in o)) ≡ nothing → duration_in_octets s ≡ None
   duration_unnumbered e = by_numbers e
 
   module _ {ps : List Part} {t : BitString} (e : after_presences s (read_numbers roots (bits_in o)) ≡ found ps t) where
@@ -64,32 +64,34 @@ module _ (s : List ℕ) (o : ℕ) (is : o ≡ get_or s 0 0) (some_octet : 0 < le
     by_tail m f = by_numbers e ∙ ap of_found (run_bind (read_tail (o % 2)) (λ x. require (well_made ps) (give (duration_of (ended_by x ps)))) t
         ∙ ap (λ m. onward m (λ x. run (require (well_made ps) (give (duration_of (ended_by x ps)))))) f)
 
-    pub duration_untailed : of_found (run (read_tail (o % 2)) t) ≡ none → duration_in_octets s ≡ none
+    pub duration_untailed : of_found (run (read_tail (o % 2)) t) ≡ None → duration_in_octets s ≡ None
     duration_untailed f = go (run (read_tail (o % 2)) t) refl f
       where
-        go : (m : Found Bool Tail) → run (read_tail (o % 2)) t ≡ m → of_found m ≡ none → duration_in_octets s ≡ none
+        go : (m : Found Bool Tail) → run (read_tail (o % 2)) t ≡ m → of_found m ≡ None → duration_in_octets s ≡ None
         go (found x u) g h = absurd (let z : ◌≡◌ {A = ℕ} 0 1 = cc in omega arith)
         go nothing g h = by_tail nothing g
 
-    module _ {x : Tail} (f : of_found (run (read_tail (o % 2)) t) ≡ some x) where
+    module _ {x : Tail} (f : of_found (run (read_tail (o % 2)) t) ≡ Some x) where
       with_tail_lem : duration_in_octets s ≡ of_found (run (require (well_made ps) (give (duration_of (ended_by x ps)))) t)
+      unfolding run
       with_tail_lem = go (run (read_tail (o % 2)) t) refl f
         where
-          go : (m : Found Bool Tail) → run (read_tail (o % 2)) t ≡ m → of_found m ≡ some x
+          go : (m : Found Bool Tail) → run (read_tail (o % 2)) t ≡ m → of_found m ≡ Some x
               → duration_in_octets s ≡ of_found (run (require (well_made ps) (give (duration_of (ended_by x ps)))) t)
           go (found y u) g h = by_tail (found y u) g ∙ rw (let z : y ≡ x = cc in z) (tested (well_made ps) u)
             where
               tested : (b : Bool) (u : BitString) → of_found (run (require b (give (duration_of (ended_by x ps)))) u)
                   ≡ of_found (run (require b (give (duration_of (ended_by x ps)))) t)
-              tested b u = by_test b (λ c. rw (c, required true (duration_of (ended_by x ps)) u refl, required true (duration_of (ended_by x ps)) t refl))
-                  (λ c. rw (c, not_required false (duration_of (ended_by x ps)) u refl, not_required false (duration_of (ended_by x ps)) t refl))
+              tested b u = by_test b (λ c. rw (required b (give (duration_of (ended_by x ps))) c))
+                  (λ c. rw (not_required b (give (duration_of (ended_by x ps))) u c, not_required b (give (duration_of (ended_by x ps))) t c))
           go nothing g h = absurd (let z : ◌≡◌ {A = ℕ} 0 1 = cc in omega arith)
 
-      pub duration_unmade : well_made ps ≡ false → duration_in_octets s ≡ none
-      duration_unmade w = with_tail_lem ∙ ap of_found (not_required (well_made ps) (duration_of (ended_by x ps)) t w)
+      pub duration_unmade : well_made ps ≡ false → duration_in_octets s ≡ None
+      duration_unmade w = with_tail_lem ∙ ap of_found (not_required (well_made ps) (give (duration_of (ended_by x ps))) t w)
 
-      pub duration-made : well_made ps ≡ true → duration_in_octets s ≡ some (duration_of (ended_by x ps))
-      duration-made w = with_tail_lem ∙ ap of_found (required (well_made ps) (duration_of (ended_by x ps)) t w)
+      pub duration-made : well_made ps ≡ true → duration_in_octets s ≡ Some (duration_of (ended_by x ps))
+      unfolding run
+      duration-made w = with_tail_lem ∙ rw (required (well_made ps) (give (duration_of (ended_by x ps))) w)
 
 -- ---- the duration of components
 
@@ -122,7 +124,7 @@ of-last g x t h (p ∷ ps) e = rw (some_ended t ps) (go (of-last g x t h ps) (an
 
 pub duration-is : (d f : ℕ) (ps : List Part) → well_made ps ≡ true → {ns : List ℕ} → numbers ps ≡ ns → {last : ℕ} → last_in ps ≡ last
     → duration_of (ended_by (tail d f) ps) ≡ duration_from ns last d f
-unfolding duration_of duration_from well_made
+unfolding duration_of well_made
 duration-is d f ps w v l =
     let p = (both (any_present ps) (eqb (count ps) 1 || not (is_present (part_at 2 ps))) w).0 in
     rw (

@@ -1,26 +1,28 @@
 -- The readings of a duration in the words of the code's tests and places.
 use mathlib.Core.Path.{◌≡◌, refl, sym, ap, ◌∙◌}
 use mathlib.Core.Bool.{Bool, true, false, ◌&&◌, cond}
-use mathlib.Core.List.{[], ◌∷◌, ◌++◌}
+use mathlib.Core.List.{List, [], ◌∷◌, ◌++◌}
 use Prim.Native.Nat.{ℕ, zero, suc, ◌+◌, ◌*◌, ◌^◌, ◌≤◌, ◌<◌}
 use native.Mathlib.Numerals.{add-one}
 use native.Mathlib.Omega.{arith}
 use lib.Dec.{leb, ltb}
-use lib.ListN.{length, drop, get_or, length-append}
+use lib.ListN.{length, drop, length-append}
+use lib.Seq.{drop-drop}
 use borrow.Author.Tests.{lt-ltb, le-ltb, le-leb, lt-leb, leb-true, leb-false}
 use Rattle.octets.specs.Found.{Found, found, nothing, onward}
+use Rattle.octets.proofs.Laws.Cases.{by_ltb}
 use Rattle.octets.proofs.Laws.Found.{nothing-not, found-value, found-rest}
-use Rattle.fields.specs.Bits.{BitString, bits_of, bit, number_in}
+use Rattle.answers.specs.declared.counts.Bits.{Bits}
+use Rattle.fields.specs.Bits.{BitString, bits_of, bit, number_in, unpacked}
 use Rattle.fields.specs.Fields.{width, binary_digits}
 use Rattle.fields.specs.Integers.{twos}
 use Rattle.fields.specs.Readings.{Reading, give, ◌>>=◌, a_ranged, a_free, a_natural, require, read_bits, read_ranged, read_free, run}
 use Rattle.fields.proofs.Laws.Bits.{length-bits, number_lt}
 use Rattle.fields.proofs.Laws.Fields.{read_free_only}
-use Rattle.fields.proofs.Laws.Readings.{run_bind}
-use Rattle.durations.specs.Fields.{roots}
-use Rattle.durations.specs.Readings.{read_after, read_extended, Tail, tail, read_tail}
+use Rattle.durations.specs.Readings.{read_after, read_extended, tail, read_tail}
 use Rattle.unpacking.specs.Durations.{read_place}
-use Rattle.unpacking.proofs.Laws.Rows.{required, not_required}
+use Rattle.unpacking.specs.Steps.{rest}
+use Rattle.unpacking.proofs.Laws.Rows.{rows}
 use Rattle.unpacking.proofs.Laws.Steps.{run-give}
 
 -- ---- a bit in front
@@ -115,7 +117,7 @@ module _ (lowest r w : ℕ) (e : w ≡ width r) (s : BitString) where
   after_inside t h = rw (← e, le-leb w (length t) h)
 
   module _ {n : ℕ} {t : BitString} (h : read_bits (w + 1) s ≡ found n t) where
-    pub extended-inside : n < r → r ≤ 2 ^ w → run (read_extended lowest r) s ≡ found (lowest + n) t
+    extended-inside : n < r → r ≤ 2 ^ w → run (read_extended lowest r) s ≡ found (lowest + n) t
     extended-inside l k = let f = front w s n t h in go f.first f.others f.is f.long f.number f.left
       where
         go : (b : Bool) (u : BitString) → s ≡ b ∷ u → w ≤ length u → n ≡ bit b * 2 ^ w + number_in w u → t ≡ drop w u
@@ -126,7 +128,7 @@ module _ (lowest r w : ℕ) (e : w ≡ width r) (s : BitString) where
             first-of false u is ∙ after_inside u long ∙ rw (v, ← left, lt-ltb n r l) (run-give (lowest + n) t)
 
     -- The bits of the range, and above it.
-    pub extended_above : r ≤ n → n < 2 ^ w → run (read_extended lowest r) s ≡ nothing
+    extended_above : r ≤ n → n < 2 ^ w → run (read_extended lowest r) s ≡ nothing
     extended_above l k = let f = front w s n t h in go f.first f.others f.is f.long f.number
       where
         go : (b : Bool) (u : BitString) → s ≡ b ∷ u → w ≤ length u → n ≡ bit b * 2 ^ w + number_in w u → run (read_extended lowest r) s ≡ nothing
@@ -136,7 +138,7 @@ module _ (lowest r w : ℕ) (e : w ≡ width r) (s : BitString) where
             first-of false u is ∙ after_inside u long ∙ rw (v, le-ltb n r l)
 
     -- The bit for "outside of the range".
-    pub extended_outside : 2 ^ w ≤ n → run (read_extended lowest r) s ≡ run a_natural (drop 1 s)
+    extended_outside : 2 ^ w ≤ n → run (read_extended lowest r) s ≡ run a_natural (drop 1 s)
     extended_outside k = let f = front w s n t h in go f.first f.others f.is f.number
       where
         go : (b : Bool) (u : BitString) → s ≡ b ∷ u → n ≡ bit b * 2 ^ w + number_in w u → run (read_extended lowest r) s ≡ run a_natural (drop 1 s)
@@ -144,7 +146,7 @@ module _ (lowest r w : ℕ) (e : w ≡ width r) (s : BitString) where
         go false u is number = absurd (omega (arith, number_lt w u))
 
   -- Too few bits are left, for a number of the range and for any other.
-  pub extended-short : read_bits (w + 1) s ≡ nothing → w ≤ 10 → run (read_extended lowest r) s ≡ nothing
+  extended-short : read_bits (w + 1) s ≡ nothing → w ≤ 10 → run (read_extended lowest r) s ≡ nothing
   unfolding read_bits
   extended-short h k = split s refl
     where
@@ -165,72 +167,43 @@ module _ (lowest r w : ℕ) (e : w ≡ width r) (s : BitString) where
       split [] q = rw q (no_first lowest r)
       split (b ∷ u) q = few b u q (leb (w + 1) (suc (length u))) refl (rw q at h)
 
+-- A number of an extensible range at a place, its first bit and the others read as one number.
+pub extended-run : (lowest r : ℕ) (s : List ℕ) (at : Bits) → width r ≤ 10 → r ≤ 2 ^ width r → run (read_extended lowest r) (rest s at)
+    ≡ onward (read_bits (width r + 1) (rest s at)) (λ n t.
+    cond (ltb n r) (found (lowest + n) t) (cond (ltb n (2 ^ width r)) nothing (run a_natural (rest s (record { count = at.count + 1 })))))
+extended-run lowest r s at k l = go (read_bits (width r + 1) (rest s at)) refl
+  where
+    go : (m : Found Bool ℕ) → read_bits (width r + 1) (rest s at) ≡ m → run (read_extended lowest r) (rest s at)
+        ≡ onward m (λ n t.
+        cond (ltb n r) (found (lowest + n) t) (cond (ltb n (2 ^ width r)) nothing (run a_natural (rest s (record { count = at.count + 1 })))))
+    go nothing e = extended-short lowest r (width r) refl _ e k
+    go (found n t) e =
+        by_ltb n r (λ h x. rw x (extended-inside lowest r (width r) refl _ e h l))
+        (λ h x. by_ltb n (2 ^ width r) (λ g y. rw (x, y) (extended_above lowest r (width r) refl _ e h g))
+        (λ g y. rw (x, y) (extended_outside lowest r (width r) refl _ e g ∙ ap (run a_natural) (drop-drop 1 at.count (unpacked s)))))
+
 -- ---- the number at a place
 
 pub place_some : (r b : ℕ) → 1 ≤ b → read_place r b ≡ (read_extended 0 r >>= λ n. require (ltb n (10 ^ 9)) (give n))
-unfolding read_place
 place_some r zero h = absurd (omega arith)
 place_some r (suc b) h = refl
 
-pub place_none : (r b : ℕ) (s : BitString) → b ≡ 0 → run (read_place r b) s ≡ found 0 s
-unfolding read_place run
-place_none r zero s h = refl
-place_none r (suc b) s h = absurd (omega arith)
-
--- The widths of the components' ranges.
-pub root_widths : (i : ℕ) → i < 7 → let w = get_or {A = ℕ} (5 ∷ 4 ∷ 6 ∷ 5 ∷ 5 ∷ 6 ∷ 6 ∷ []) i 0 in
-    (w ≤ 10) × (w ≡ width (get_or roots i 0)) × (get_or roots i 0 ≤ 2 ^ w)
-unfolding width binary_digits
-root_widths zero h = (omega arith, refl, omega arith)
-root_widths (suc zero) h = (omega arith, refl, omega arith)
-root_widths (suc (suc zero)) h = (omega arith, refl, omega arith)
-root_widths (suc (suc (suc zero))) h = (omega arith, refl, omega arith)
-root_widths (suc (suc (suc (suc zero)))) h = (omega arith, refl, omega arith)
-root_widths (suc (suc (suc (suc (suc zero))))) h = (omega arith, refl, omega arith)
-root_widths (suc (suc (suc (suc (suc (suc zero)))))) h = (omega arith, refl, omega arith)
-root_widths (suc (suc (suc (suc (suc (suc (suc i))))))) h = absurd (omega arith)
+pub place_none : (r b : ℕ) → b ≡ 0 → read_place r b ≡ give 0
+place_none r zero h = refl
+place_none r (suc b) h = absurd (omega arith)
 
 -- ---- the fraction
 
-pub tail_none : (x : ℕ) (s : BitString) → x ≡ 0 → run (read_tail x) s ≡ found (tail 0 0) s
-unfolding read_tail run
-tail_none zero s e = refl
-tail_none (suc x) s e = absurd (omega arith)
+pub tail_none : (x : ℕ) → x ≡ 0 → read_tail x ≡ give (tail 0 0)
+unfolding read_tail
+tail_none zero h = refl
+tail_none (suc x) h = absurd (omega arith)
 
--- What is read after the digit count.
-value_after : ℕ → Reading Tail
-value_after d = require (leb 1 d && leb d 9) (read_extended 1 999) >>= λ f. require (ltb f (10 ^ d)) (give (tail d f))
-
-tail_some : (x : ℕ) → 1 ≤ x → read_tail x ≡ (read_extended 1 3 >>= value_after)
-unfolding read_tail value_after
+pub tail_some : (x : ℕ) → 1 ≤ x → read_tail x ≡ (read_extended 1 3 >>= λ d. require (leb 1 d && leb d 9) (read_extended 1 999)
+    >>= λ f. require (ltb f (10 ^ d)) (give (tail d f)))
+unfolding read_tail
 tail_some zero h = absurd (omega arith)
 tail_some (suc x) h = refl
 
-module _ (x : ℕ) (s : BitString) (some : 1 ≤ x) where
-  by_count : {m : Found Bool ℕ} → run (read_extended 1 3) s ≡ m → run (read_tail x) s ≡ onward m (λ d. run (value_after d))
-  by_count e = rw (tail_some x some) (run_bind (read_extended 1 3) value_after s ∙ rw e)
-
-  -- No digit count.
-  pub tail_uncounted : run (read_extended 1 3) s ≡ nothing → run (read_tail x) s ≡ nothing
-  tail_uncounted e = by_count e
-
-  module _ {d : ℕ} {t : BitString} (e : run (read_extended 1 3) s ≡ found d t) where
-    -- Too few or too many digits.
-    pub tail-refused : (leb 1 d && leb d 9) ≡ false → run (read_tail x) s ≡ nothing
-    unfolding value_after require ◌>>=◌ run
-    tail-refused h = by_count e ∙ rw h
-
-    module _ (l : 1 ≤ d) (k : d ≤ 9) where
-      by_value : {m : Found Bool ℕ} → run (read_extended 1 999) t ≡ m → run (read_tail x) s ≡ onward m (λ f. run (require (ltb f (10 ^ d)) (give (tail d f))))
-      unfolding value_after require
-      by_value f = by_count e ∙ rw (le-leb 1 d l, le-leb d 9 k) (run_bind (read_extended 1 999) (λ f. require (ltb f (10 ^ d)) (give (tail d f))) t ∙ rw f)
-
-      pub tail_unvalued : run (read_extended 1 999) t ≡ nothing → run (read_tail x) s ≡ nothing
-      tail_unvalued f = by_value f
-
-      module _ {n : ℕ} {u : BitString} (f : run (read_extended 1 999) t ≡ found n u) where
-        pub tail_read : ltb n (10 ^ d) ≡ true → run (read_tail x) s ≡ found (tail d n) u
-        tail_read h = by_value f ∙ required (ltb n (10 ^ d)) (tail d n) u h
-
-        pub tail_large : ltb n (10 ^ d) ≡ false → run (read_tail x) s ≡ nothing
-        tail_large h = by_value f ∙ not_required (ltb n (10 ^ d)) (tail d n) u h
+-- The readings of a duration, for the goals of the code.
+pub ruleset extended = (rows, extended-run, place_none, place_some, tail_none, tail_some)

@@ -7,24 +7,24 @@ use native.Mathlib.Omega.{arith}
 use lib.Dec.{leb, ltb}
 use lib.ListN.{length, length-drop}
 use lib.Seq.{drop-drop}
+use lib.IntN.{ℤ, pos, negsuc}
+use lib.Signed.{◌<ℤ◌}
+use Rattle.std.proofs.lemmas.Int.{ints}
 use borrow.Author.Tests.{le-leb, lt-leb}
 use Rattle.octets.specs.Found.{Found, found, nothing, onward}
-use Rattle.octets.proofs.Laws.Cases.{by_leb}
-use Rattle.octets.proofs.Laws.Found.{told}
 use Rattle.answers.specs.declared.counts.Bits.{Bits}
 use Rattle.fields.specs.Bits.{BitString, number_in, unpacked}
 use Rattle.fields.specs.Fields.{width}
 use Rattle.fields.specs.Integers.{half, from_twos}
-use Rattle.fields.specs.Readings.{Reading, give, ◌>>=◌, a_ranged, a_free, read_bits, read_ranged, read_free, run}
+use Rattle.fields.specs.Readings.{Reading, give, ◌>>=◌, a_ranged, a_free, read_bits, read_ranged, read_free, natural, run}
 use Rattle.fields.proofs.Laws.Bits.{length-unpacked}
 use Rattle.fields.proofs.Laws.Readings.{run_bind}
 use Rattle.unpacking.specs.Steps.{rest, signed_of}
 
--- How a reading goes on by what a match has told of its first part.
-module _ {R A B : Type 0} where
-  pub step : (see : R → Found Bool A) (t : Reading A) (f : A → Reading B) (s : BitString) {r k : R} → see r ≡ run t s → r ≡ k
-      → run (t >>= f) s ≡ onward (see k) (λ a. run (f a))
-  step see t f s e h = run_bind t f s ∙ ap (λ x. onward x (λ a. run (f a))) (told see e h)
+-- How a reading goes on by what its first part found.
+module _ {A B : Type 0} where
+  pub step : (t : Reading A) (f : A → Reading B) (s : BitString) {m : Found Bool A} → m ≡ run t s → run (t >>= f) s ≡ onward m (λ a. run (f a))
+  step t f s e = run_bind t f s ∙ ap (λ x. onward x (λ a. run (f a))) (sym e)
 
 -- A result that is given.
 pub run-give : {A : Type 0} (a : A) (s : BitString) → run (give a) s ≡ found a s
@@ -36,33 +36,25 @@ unfolding run
 given (found a s) = refl
 given nothing = refl
 
--- A number of a range (a constrained whole number), by what was read of its bits.
-pub ranged_by : (r w : ℕ) (s : BitString) {m : Found Bool ℕ} → w ≡ width r → read_bits w s ≡ m
-    → run (a_ranged r) s ≡ onward m (λ v s. cond (ltb v r) (found v s) nothing)
+-- A number of a range (a constrained whole number), by its bits.
+pub ranged-run : (r : ℕ) (s : BitString) → run (a_ranged r) s ≡ onward (read_bits (width r) s) (λ v s. cond (ltb v r) (found v s) nothing)
 unfolding run a_ranged read_ranged
-ranged_by r w s e h =
-    given (read_ranged r s) ∙ ap (λ m. onward m (λ v s. cond (ltb v r) (found v s) nothing)) (ap (λ (n : ℕ). read_bits n s) (sym e) ∙ h)
+ranged-run r s = given (read_ranged r s)
 
--- A free integer (an unconstrained whole number), by what was read of its length.
-pub free_by : (s : BitString) {m : Found Bool ℕ} → read_bits 8 s ≡ m
-    → run a_free s ≡ onward m (λ n s.
-    cond (leb 1 n) (cond (leb n 4) (onward (read_bits (8 * n) s) (λ t s. found (from_twos n t) s)) nothing) nothing)
-unfolding run a_free read_free
-free_by s h =
-    given (read_free s)
-    ∙ ap (λ m. onward m (λ n s.
-    cond (leb 1 n) (cond (leb n 4) (onward (read_bits (8 * n) s) (λ t s. found (from_twos n t) s)) nothing) nothing)) h
+-- A free integer (an unconstrained whole number), by the bits of its length and its own.
+pub free-run : (s : BitString) → run a_free s ≡ onward (read_bits 8 s) (λ n s.
+    cond (leb 1 n) (cond (leb n 4) (onward (read_bits (8 * n) s) (λ t s. found (signed_of (8 * n) t) s)) nothing) nothing)
+unfolding run a_free read_free signed_of from_twos half
+free-run s = given (read_free s)
 
--- A free integer, by a length that has a width, or has none.
-module _ (s : BitString) {n : ℕ} {t : BitString} (h : read_bits 8 s ≡ found n t) where
-  pub free_some : (w : ℕ) → (1 ≤ n) × (n ≤ 4) × (w ≡ 8 * n) → run a_free s ≡ onward (read_bits w t) (λ v s. found (signed_of w v) s)
-  unfolding signed_of from_twos half
-  free_some w k = rw (free_by s h, le-leb 1 n k.0, le-leb n 4 k.1, k.2)
+-- A negative integer where one that is not is read.
+pub negative-run : (z : ℤ) (s : BitString) → z <ℤ pos 0 → run (natural z) s ≡ nothing
+unfolding natural run
+negative-run (pos n) s h = absurd (omega (arith, ints))
+negative-run (negsuc n) s h = refl
 
-  pub free_none : (1 ≤ n → n ≤ 4 → ⊥) → run a_free s ≡ nothing
-  free_none f = by_leb 1 n
-      (λ l e. by_leb n 4 (λ k d. absurd (f l k)) (λ k d. rw (free_by s h, e, d)))
-      (λ l e. rw (free_by s h, e))
+-- How readings go on, for the goals of the code.
+pub ruleset steps = (run_bind, run-give, ranged-run, free-run, negative-run)
 
 -- So many bits at a place, where the octets do not end before, and where they do.
 length_rest : (s : List ℕ) (at : Bits) → length (rest s at) ≡ 8 * length s - at.count

@@ -5,13 +5,7 @@ use Rattle.answers.proofs.Laws.Outcomes.{left_out, put_in}
 use Rattle.answers.proofs.outcomes.deliver.Goals as goal
 
 pub returns-then-room-count : goal.returns-then-room-count
-returns-then-room-count c = record {
-  value = (left_out _ _ _ (omega arith) c.refused.ensures refl).0;
-  room_after = (left_out _ _ _ (omega arith) c.refused.ensures refl).1;
-}
+returns-then-room-count c = left_out _ _ _ (omega arith) c.refused.ensures refl
 
 pub returns : goal.returns
-returns c = record {
-  value = (put_in _ _ _ (omega arith) refl (put_front _ _ (omega arith) c.put_octets.ensures.room_after)).0;
-  room_after = (put_in _ _ _ (omega arith) refl (put_front _ _ (omega arith) c.put_octets.ensures.room_after)).1;
-}
+returns c = put_in _ _ _ (omega arith) refl (put_front _ _ (omega arith) c.put_octets.ensures.room_after)

@@ -6,9 +6,6 @@ pub returns-then-given-ne0 : goal.returns-then-given-ne0
 unfolding limits_given
 returns-then-given-ne0 c = simp (ne_eqb _ _ c.if-given-ne0.true)
 
-pub window_given-window-requires : goal.window_given-window-requires
-window_given-window-requires c = tt
-
 pub returns : goal.returns
 unfolding limits_given
-returns c = rw (eq-eqb _ _ c.if-given-ne0.false, ← c.window_given-window.ensures)
+returns c = rw (eq-eqb _ _ c.if-given-ne0.false, ← c.window_given.ensures)

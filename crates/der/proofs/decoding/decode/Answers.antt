@@ -1,7 +1,6 @@
-use mathlib.Core.Path.{ap, refl, sym, ◌∙◌}
+use mathlib.Core.Path.{refl, sym, ◌∙◌}
 use Rattle.answers.specs.Outcomes.{outcome_of, room_of}
 use Rattle.kinds.specs.Coding.{decoded, judged_octets}
-use Rattle.held_values.specs.Encodings.{of_text}
 use Rattle.held_values.proofs.Laws.Existing.{judged-held}
 use Rattle.held_values.proofs.Laws.Holding.{held}
 use Rattle.der_elements.proofs.Laws.Der.{der-judged_as}
@@ -18,38 +17,38 @@ pub returns-in_default : goal.returns-in_default
 unfolding decoded judged_octets outcome_of room_of
 returns-in_default c = rw (
   sym c.well_formed-2.ensures ∙ c.if-not-well_formed.false,
-  ← c.name-name.ensures,
+  ← c.name.ensures,
   ← c.form.ensures,
-  sym c.read_element.ensures ∙ ap of_text c.in_default.is,
+  sym c.read_element.ensures ∙ c.in_default.is,
 ) (record {
   value = c.refused-in_default.ensures;
   room_after = refl;
 })
 
 pub compare-requires : goal.compare-requires
-compare-requires c = (held _ _ (judged-held _ _ (sym c.judge-judgement.ensures ∙ c.in-Held.is))).0
+compare-requires c = (held _ _ (judged-held _ _ (sym c.judge.ensures ∙ c.in-Ok.is))).0
 
-pub returns-in-Held : goal.returns-in-Held
+pub returns-in-Ok : goal.returns-in-Ok
 unfolding decoded judged_octets
-returns-in-Held c = rw (
+returns-in-Ok c = rw (
   sym c.well_formed-2.ensures ∙ c.if-not-well_formed.false,
-  ← c.name-name.ensures,
+  ← c.name.ensures,
   ← c.form.ensures,
-  sym c.read_element.ensures ∙ ap of_text c.in-Value.is,
+  sym c.read_element.ensures ∙ c.in-Some.is,
   der-judged_as _ _ _,
-  sym c.judge-judgement.ensures ∙ c.in-Held.is,
+  sym c.judge.ensures ∙ c.in-Ok.is,
 ) (c.compare.ensures)
 
-pub returns-in-Refused : goal.returns-in-Refused
+pub returns-in-Err : goal.returns-in-Err
 unfolding decoded judged_octets outcome_of room_of
-returns-in-Refused c = rw (
+returns-in-Err c = rw (
   sym c.well_formed-2.ensures ∙ c.if-not-well_formed.false,
-  ← c.name-name.ensures,
+  ← c.name.ensures,
   ← c.form.ensures,
-  sym c.read_element.ensures ∙ ap of_text c.in-Value.is,
+  sym c.read_element.ensures ∙ c.in-Some.is,
   der-judged_as _ _ _,
-  sym c.judge-judgement.ensures ∙ c.in-Refused.is,
+  sym c.judge.ensures ∙ c.in-Err.is,
 ) (record {
-  value = c.refused-in-Refused.ensures;
+  value = c.refused-in-Err.ensures;
   room_after = refl;
 })

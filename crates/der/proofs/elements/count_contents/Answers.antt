@@ -1,37 +1,21 @@
-use mathlib.Core.Path.{ap}
-use native.Mathlib.Omega.{arith}
-use lib.ListN.{length}
-use Rattle.der_elements.proofs.Laws.Contents.{contents-counted, contents-end}
+use Rattle.std.proofs.Common.{◌≡◌, refl, arith, rules, ℕ, Bool, true, false, not, cond, ◌+◌, List, ◌∷◌, length}
+use Rattle.std.specs.List.{count_by}
+use Rattle.std.proofs.iter.runs.Made.{chains}
+use Rattle.std.proofs.lemmas.List.Recursion.{is_count_by}
+use Rattle.types.specs.declared.types.Name.{Name}
+use Rattle.der_elements.specs.Elements.{contents_of, omits, without}
 use Rattle.der.proofs.elements.count_contents.Goals as goal
 
-pub loop-i-init : goal.loop-i-init
-loop-i-init c = (omega arith, omega arith, omega arith)
+-- The contents are as many octets as are not omitted.
+counted : (name : Name) (l : List ℕ) → length (contents_of name l) ≡ count_by (λ octet. not (omits name octet)) l
+unfolding contents_of without
+counted name l = is_count_by (λ (m : List ℕ). length (without (omits name) m)) (λ octet. not (omits name octet)) refl (λ c m. go (omits name c) c (without (omits name) m)) l
+  where
+    go : (b : Bool) (c : ℕ) (w : List ℕ) → length (cond b w (c ∷ w)) ≡ cond (not b) (1 + length w) (length w)
+    go true c w = refl
+    go false c w = omega arith
 
-pub bounds-text-i : goal.bounds-text-i
-bounds-text-i c = omega arith
-
-pub count_octet-count-requires : goal.count_octet-count-requires
-count_octet-count-requires c = tt
-
-pub overflow_add-count : goal.overflow_add-count
-overflow_add-count c = omega arith
-
-pub overflow_add-i : goal.overflow_add-i
-overflow_add-i c = omega arith
-
-pub loop-i-smaller : goal.loop-i-smaller
-loop-i-smaller c = omega arith
-
-pub loop-i-preserved : goal.loop-i-preserved
-loop-i-preserved c =
-    let a = c.args in
-    let i = c.loop-i.i in
-    let e = contents-counted a.name a.text.now i c.loop-i-test.true c.count_octet-count.ensures.value in
-    (omega arith, omega arith, omega arith)
-
-pub returns : goal.returns
-returns c = let a = c.args in
-    let e = contents-end a.name a.text.now c.loop-i.i (omega arith) in record {
-      value = omega (arith, ap length e);
-      upper_bound = omega arith;
-    }
+pub returns-clause-value : goal.returns-clause-value
+returns-clause-value c =
+    let e : c.count.result ≡ count_by (λ octet. not (omits c.args.name octet)) c.args.text.now = search (rules, chains) in
+    rw (counted c.args.name c.args.text.now) e

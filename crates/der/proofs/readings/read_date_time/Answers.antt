@@ -1,5 +1,7 @@
 use mathlib.Core.Path.{◌≡◌, refl, ap, sym, ◌∙◌}
 use mathlib.Core.Bool.{true}
+use mathlib.Core.List.{List}
+use Prim.Native.Nat.{ℕ}
 use native.Mathlib.Omega.{arith}
 use lib.ListN.{length, length-set}
 use lib.Seq.{length-take-le}
@@ -61,4 +63,4 @@ pub returns : goal.returns
 returns c =
     let a = c.args in
     let e = date_time_stored a.contents.now (fourteen (goal.at.returns c).Else-not-digits_only) refl c.put_fields-place.ensures c.put_fields.ensures in
-    rw (passed (goal.at.returns c).Else-not-digits_only) (ap of_text (c.read_text.ensures ∙ ap (read_of a.form) e))
+    rw (passed (goal.at.returns c).Else-not-digits_only) (c.read_value.ensures ∙ ap (λ (l : List ℕ). of_text (read_of a.form l)) e)

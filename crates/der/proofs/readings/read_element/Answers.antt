@@ -1,26 +1,16 @@
-use mathlib.Core.Path.{◌≡◌, sym, ◌∙◌}
-use native.Mathlib.Omega.{arith}
-use Rattle.der_elements.specs.Readings.{read_element}
-use lib.ListN.{length}
-use Rattle.der_elements.specs.Elements.{tag_of}
-use Rattle.der_elements.proofs.Laws.Readings.{begins_short, rest_cut}
+use Rattle.der_elements.specs.Readings.{read_contents, read_element}
+use mathlib.Core.Path.{◌∙◌, sym}
+use Rattle.der_elements.proofs.Laws.Readings.{element_none, element_there}
 use Rattle.der.proofs.readings.read_element.Goals as goal
 
-pub returns-then-not-has_tag : goal.returns-then-not-has_tag
+pub returns-in_err-contents_under : goal.returns-in_err-contents_under
 unfolding read_element
-returns-then-not-has_tag c = rw (sym c.has_tag.ensures ∙ c.if-not-has_tag.true)
-
-pub returns-then-octets-at : goal.returns-then-octets-at
-unfolding read_element
-returns-then-octets-at c =
+returns-in_err-contents_under c =
     let a = c.args in
-    let e : c.tag_length-at.result ≡ length (tag_of a.name) = c.tag_length-at.ensures in
-    rw (begins_short a.octets.now (tag_of a.name) (omega (arith, c.if-octets-at.true)))
+    c.from_residual.ensures ∙ sym (element_none (read_contents a.name a.form) a.name a.octets.now (sym (rw c.in_err-contents_under.was at c.contents_under.ensures.value)))
 
 pub returns : goal.returns
 unfolding read_element
 returns c =
     let a = c.args in
-    let e = rest_cut c.tag_length-at.result a.octets.now (omega (arith, c.if-octets-at.false)) in
-    rw (sym c.has_tag.ensures ∙ c.if-not-has_tag.false, ← c.tag_length-at.ensures)
-    (rw e at c.read_length.ensures)
+    c.read_contents.ensures ∙ sym (element_there (read_contents a.name a.form) a.name a.octets.now _ (sym (rw c.in_ok-contents_under.was at c.contents_under.ensures.value)))

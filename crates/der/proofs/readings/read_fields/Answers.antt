@@ -1,6 +1,7 @@
 use mathlib.Core.Path.{◌≡◌, ap, sym, ◌∙◌}
 use mathlib.Core.Bool.{true}
-use Prim.Native.Nat.{◌+◌, ◌≤◌}
+use mathlib.Core.List.{List}
+use Prim.Native.Nat.{ℕ, ◌+◌, ◌≤◌}
 use native.Mathlib.Omega.{arith}
 use lib.ListN.{length}
 use lib.Seq.{length-take-le}
@@ -43,11 +44,11 @@ put_fields-end-requires c = let e = sized (goal.at.put_fields-end-requires c).Af
 pub slice_bounds-text-end : goal.slice_bounds-text-end
 slice_bounds-text-end c = within (goal.at.slice_bounds-text-end c).After-put_fields-end
 
-pub slice_bounds-read_text-end : goal.slice_bounds-read_text-end
-slice_bounds-read_text-end c = sym (length-take-le _ _ (within (goal.at.slice_bounds-read_text-end c).After-put_fields-end))
+pub slice_bounds-read_value-end : goal.slice_bounds-read_value-end
+slice_bounds-read_value-end c = sym (length-take-le _ _ (within (goal.at.slice_bounds-read_value-end c).After-put_fields-end))
 
 pub returns : goal.returns
 returns c =
     let a = c.args in
     let t = front_stored c.put_fields-end.ensures (let e = (sized (goal.at.returns c).After-text-1).1 in omega arith) in
-    rw (passed (goal.at.returns c).After-text-1) (ap of_text (c.read_text.ensures ∙ ap (read_of a.form) t))
+    rw (passed (goal.at.returns c).After-text-1) (c.read_value.ensures ∙ ap (λ (l : List ℕ). of_text (read_of a.form l)) t)

@@ -1,47 +1,31 @@
-use mathlib.Core.Path.{◌∙◌, ap, refl, sym}
+use mathlib.Core.Path.{refl, sym, ◌∙◌}
+use Prim.Native.Nat.{◌-◌}
 use native.Mathlib.Omega.{arith}
-use lib.ListN.{length-set}
-use Rattle.lines.proofs.Laws.Hex.{behind, behind_none, pair_read, first_bad, second_bad, half_left, none_left}
+use lib.ListN.{drop, length, length-drop, length-set}
+use lib.Seq.{take_all}
+use Rattle.lines.proofs.Laws.Hex.{pair_read, first_bad, second_bad, half_left, none_left}
 use Rattle.lines.proofs.hex.read_hex.Goals as goal
 
-pub loop-i-init : goal.loop-i-init
-loop-i-init c = (omega arith, omega arith, refl, behind_none _)
+pub returns-in_err-hex_number-clause-buffer_after : goal.returns-in_err-hex_number-clause-buffer_after
+returns-in_err-hex_number-clause-buffer_after c = rw (c.from_residual.ensures, first_bad _ _ _ _ c.loop-rest.invariant.2 c.in-len2-up.len_at_least (rw c.in_err-hex_number.was at c.hex_number.ensures)) refl
 
-pub returns-then-high-gt15 : goal.returns-then-high-gt15
-returns-then-high-gt15 c = let loop-test = c.loop-i-test in
-    let loop = c.loop-i in record {
-      buffer_after = sym (loop.invariant.3 ∙ ap (behind _) (first_bad _ _ _ loop-test.true c.hex_number-high.ensures c.if-high-gt15.true));
-      result_in_bounds = omega arith;
-    }
+pub returns-in_err-buffer-clause-buffer_after : goal.returns-in_err-buffer-clause-buffer_after
+returns-in_err-buffer-clause-buffer_after c = rw (c.from_residual-in_err-buffer.ensures, second_bad _ _ _ _ c.loop-rest.invariant.2 c.in-len2-up.len_at_least (rw c.in_err-buffer.was at c.hex_number-in-len2-up.ensures)) refl
 
-pub returns-then-low-gt15 : goal.returns-then-low-gt15
-returns-then-low-gt15 c = let loop-test = c.loop-i-test in
-    let loop = c.loop-i in record {
-      buffer_after = sym (loop.invariant.3 ∙ ap (behind _) (second_bad _ _ _ loop-test.true c.hex_number-low.ensures c.if-low-gt15.true));
-      result_in_bounds = omega arith;
-    }
-
-pub loop-i-preserved : goal.loop-i-preserved
-loop-i-preserved c =
-    let low = c.hex_number-low in
-    let high = c.hex_number-high in
-    let loop = c.loop-i in
-    let text = c.args.text.now in (
-      omega arith,
-      omega arith,
-      simp length-set loop.invariant.2,
-      pair_read text loop.i loop.buffer loop.n high.result low.result c.loop-i-test.true (omega arith) high.ensures low.ensures
-          (omega arith) (omega arith) loop.invariant.3,
+pub loop-rest-preserved : goal.loop-rest-preserved
+loop-rest-preserved c =
+    let l = c.loop-rest in
+    let h = rw c.in_ok-hex_number.was at c.hex_number.ensures in
+    let k = rw c.in_ok-buffer.was at c.hex_number-in-len2-up.ensures in
+    let d = length-drop 2 l.rest.now in
+    rw (take_all (length l.rest.now - 2) (drop 2 l.rest.now) (omega (arith, d))) (
+      omega (arith, d, l.invariant.0, c.in-len2-up.len_at_least),
+      simp length-set l.invariant.1,
+      pair_read _ _ _ _ l.invariant.2 _ _ c.in-len2-up.len_at_least (omega arith) h.1 k.1 (omega (arith, h.0, h.1)) (omega (arith, k.0, k.1)),
     )
 
-pub returns-then-i-text : goal.returns-then-i-text
-returns-then-i-text c = record {
-  buffer_after = sym (c.loop-i.invariant.3 ∙ ap (behind _) (half_left _ _ c.if-i-text.true c.loop-i-test.false));
-  result_in_bounds = omega arith;
-}
+pub returns-then-is_empty-clause-buffer_after : goal.returns-then-is_empty-clause-buffer_after
+returns-then-is_empty-clause-buffer_after c = sym (none_left _ _ _ _ c.loop-rest.invariant.2 (sym c.is_empty.ensures ∙ c.if-is_empty.true))
 
-pub returns : goal.returns
-returns c = record {
-  buffer_after = sym (c.loop-i.invariant.3 ∙ none_left _ _ _ c.if-i-text.false);
-  result_in_bounds = omega arith;
-}
+pub returns-else-is_empty-clause-buffer_after : goal.returns-else-is_empty-clause-buffer_after
+returns-else-is_empty-clause-buffer_after c = sym (half_left _ _ _ _ c.loop-rest.invariant.2 (sym c.is_empty.ensures ∙ c.if-is_empty.false) c.in_default.len_below)

@@ -8,4 +8,4 @@ returns-in_default c = let named = c.named in rw (sym named.ensures, c.in_defaul
 
 pub returns : goal.returns
 unfolding worked
-returns c = let named = c.named in rw (sym named.ensures, c.in-Entry.is) (c.entry_reply.ensures)
+returns c = let named = c.named in rw (sym named.ensures, c.in-Some.is) (c.entry_reply.ensures)

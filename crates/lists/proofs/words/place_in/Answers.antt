@@ -1,33 +1,19 @@
 use mathlib.Core.Path.{sym, ◌∙◌}
-use native.Mathlib.Omega.{arith}
-use Rattle.lists.proofs.Laws.Words.{left_all, left_none, left_hit, left_miss, next_within}
+use borrow.Author.Rules.{rules}
+use borrow.Author.Tests.{tests}
+use Rattle.std.proofs.lemmas.Iterator.{YieldsList-from_slice}
+use Rattle.std.proofs.lemmas.Iterator.Search.{position_from_yields_List}
+use Rattle.lists.proofs.Laws.Words.{is_it, place-position}
 use Rattle.lists.proofs.words.place_in.Goals as goal
 
-pub loop-place-init : goal.loop-place-init
-loop-place-init c = left_all
-
-pub overflow_add-word : goal.overflow_add-word
-overflow_add-word c = omega (arith, next_within c.requires c.loop-place.invariant c.loop-place-test.true)
-
-pub bounds-table-at : goal.bounds-table-at
-bounds-table-at c =
-    omega (arith, next_within c.requires c.loop-place.invariant c.loop-place-test.true)
-
-pub overflow_add-end : goal.overflow_add-end
-overflow_add-end c = omega (arith, next_within c.requires c.loop-place.invariant c.loop-place-test.true)
-
-pub returns-then-same : goal.returns-then-same
-returns-then-same c ws e =
-    left_hit (c.loop-place.invariant ws e) c.loop-place-test.true
-    (sym c.same.ensures ∙ c.if-same.true)
-
-pub loop-place-preserved : goal.loop-place-preserved
-loop-place-preserved c ws e =
-    left_miss (c.loop-place.invariant ws e) c.loop-place-test.true
-    (sym c.same.ensures ∙ c.if-same.false)
+pub returns-in_err-place : goal.returns-in_err-place
+returns-in_err-place c =
+    let p = position_from_yields_List (is_it c.args.s.now) _ _ c.position.result c.position.ensures.ran (YieldsList-from_slice c.args.words.now cc)
+    (λ x b q k. search (rules, tests)) in
+    c.from_residual.ensures ∙ sym (place-position c.args.s.now c.args.words.now c.position.result p ∙ rw c.in_err-place.was)
 
 pub returns : goal.returns
-returns c ws e = left_none (c.loop-place.invariant ws e) c.loop-place-test.false
-
-pub slice_bounds-same-end : goal.slice_bounds-same-end
-slice_bounds-same-end c = next_within c.requires c.loop-place.invariant c.loop-place-test.true
+returns c =
+    let p = position_from_yields_List (is_it c.args.s.now) _ _ c.position.result c.position.ensures.ran (YieldsList-from_slice c.args.words.now cc)
+    (λ x b q k. search (rules, tests)) in
+    sym (place-position c.args.s.now c.args.words.now c.position.result p ∙ rw c.in_ok-place.was)

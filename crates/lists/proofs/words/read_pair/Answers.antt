@@ -1,53 +1,36 @@
-use mathlib.Core.Path.{refl, ◌∙◌}
+use mathlib.Core.Path.{sym, ◌∙◌}
 use native.Mathlib.Omega.{arith}
-use lib.ListN.{get_or-eq_default}
-use borrow.Author.Tests.{ne_eqb}
-use Rattle.lists.specs.Words.{basic_words, date_words, interval_words, year_words, zone_words}
-use Rattle.lists.proofs.Laws.Words.{only_table, interval_first}
+use lib.ListN.{get_or}
+use borrow.Author.Tests.{eqb-true, ne_eqb}
+use Rattle.lists.proofs.Laws.Words.{interval_first, no_pair, only_table, or_none}
 use Rattle.lists.proofs.words.read_pair.Goals as goal
 
-pub returns-then-s-eq0 : goal.returns-then-s-eq0
-returns-then-s-eq0 c = rw (only_table, get_or-eq_default c.args.s.now 0 {n = 0} (omega arith))
+pub returns-then-is_empty : goal.returns-then-is_empty
+returns-then-is_empty c = no_pair _ (eqb-true _ _ (sym c.is_empty.ensures ∙ c.if-is_empty.true))
 
-pub place_in-requires : goal.place_in-requires
-place_in-requires c = (basic_words, (refl, refl))
+pub returns-in-66 : goal.returns-in-66
+returns-in-66 c = c.found.ensures ∙ rw (c.place_in.ensures, only_table, c.in-66.is, or_none)
 
-pub returns-then-first-eq66 : goal.returns-then-first-eq66
-returns-then-first-eq66 c = c.pair_or_none.ensures ∙ rw (c.place_in.ensures basic_words (refl, refl), only_table, c.if-first-eq66.true)
+pub returns-in-68 : goal.returns-in-68
+returns-in-68 c = c.found-in-68.ensures ∙ rw (c.place_in-in-68.ensures, only_table, c.in-68.is, or_none)
 
-pub place_in-requires-then-first-eq68 : goal.place_in-requires-then-first-eq68
-place_in-requires-then-first-eq68 c = (date_words, (refl, refl))
+pub returns-in-89 : goal.returns-in-89
+returns-in-89 c = c.found-in-89.ensures ∙ rw (c.place_in-in-89.ensures, only_table, c.in-89.is, or_none)
 
-pub returns-then-first-eq68 : goal.returns-then-first-eq68
-returns-then-first-eq68 c = c.pair_or_none-then-first-eq68.ensures ∙ rw (c.place_in-then-first-eq68.ensures date_words (refl, refl), only_table, c.if-first-eq68.true)
+pub returns-in-84 : goal.returns-in-84
+returns-in-84 c = c.found-in-84.ensures ∙ rw (c.time_word.ensures, only_table, c.in-84.is, or_none)
 
-pub place_in-requires-then-first-eq89 : goal.place_in-requires-then-first-eq89
-place_in-requires-then-first-eq89 c = (year_words, (refl, refl))
+pub returns-in-76 : goal.returns-in-76
+returns-in-76 c = c.found-in-76.ensures ∙ rw (c.place_in-in-76.ensures, only_table, c.in-76.is, or_none)
 
-pub returns-then-first-eq89 : goal.returns-then-first-eq89
-returns-then-first-eq89 c = c.pair_or_none-then-first-eq89.ensures ∙ rw (c.place_in-then-first-eq89.ensures year_words (refl, refl), only_table, c.if-first-eq89.true)
-
-pub returns-then-first-eq84 : goal.returns-then-first-eq84
-returns-then-first-eq84 c = c.pair_or_none-then-first-eq84.ensures ∙ rw (c.time_word.ensures, only_table, c.if-first-eq84.true)
-
-pub place_in-requires-then-first-eq76 : goal.place_in-requires-then-first-eq76
-place_in-requires-then-first-eq76 c = (zone_words, (refl, refl))
-
-pub returns-then-first-eq76 : goal.returns-then-first-eq76
-returns-then-first-eq76 c = c.pair_or_none-then-first-eq76.ensures ∙ rw (c.place_in-then-first-eq76.ensures zone_words (refl, refl), only_table, c.if-first-eq76.true)
-
-pub place_in-requires-2 : goal.place_in-requires-2
-place_in-requires-2 c = (interval_words, (refl, refl))
-
-pub returns : goal.returns
-returns c =
-    rw (
-      c.place_in-2.ensures interval_words (refl, refl),
-      only_table,
-      ne_eqb _ _ c.if-first-eq66.false,
-      ne_eqb _ _ c.if-first-eq68.false,
-      ne_eqb _ _ c.if-first-eq89.false,
-      ne_eqb _ _ c.if-first-eq84.false,
-      ne_eqb _ _ c.if-first-eq76.false,
-      interval_first,
-    )
+pub returns-in_default : goal.returns-in_default
+returns-in_default c = c.found-in_default.ensures ∙ rw (
+  c.place_in-in_default.ensures,
+  only_table,
+  ne_eqb (get_or c.args.s.now 0 0) 66 (omega arith),
+  ne_eqb (get_or c.args.s.now 0 0) 68 (omega arith),
+  ne_eqb (get_or c.args.s.now 0 0) 89 (omega arith),
+  ne_eqb (get_or c.args.s.now 0 0) 84 (omega arith),
+  ne_eqb (get_or c.args.s.now 0 0) 76 (omega arith),
+  interval_first,
+)

@@ -1,26 +1,15 @@
-use mathlib.Core.Path.{refl}
+use mathlib.Core.Logic.{inl, inr}
 use Rattle.fields.specs.Fields.{layout}
-use Rattle.rows.specs.Fields.{date_fields}
 use Rattle.packing.specs.Parts.{date_of}
-use Rattle.packing.proofs.Laws.Parts.{taken}
-use borrow.Author.Rules.{rules}
 use Rattle.packing.proofs.dates.date_part.Goals as goal
-use Rattle.packing.proofs.dates.date_part.Goals.{in-Date, in-DateTime}
 
-pub returns-in-Time : goal.returns-in-Time
-unfolding date_of layout
-returns-in-Time c = record {
-  result_value = rw c.in-Time.is c.nothing.ensures.result_value;
-  fits = search rules;
-}
-
-pub returns : goal.returns
+pub returns-in-Date-clause-bits : goal.returns-in-Date-clause-bits
 unfolding date_of
-returns c = let row = c.args.row in
-    let e = c.date_group.ensures.result_value in record {
-      result_value = elim c.match-value.branch [
-        | in-Date w ↦ taken (date_fields row) (date_of row) e w.date-is w.in-Date.is refl
-        | in-DateTime w ↦ taken (date_fields row) (date_of row) e w.date-is w.in-DateTime.is refl
-      ];
-      fits = search rules;
-    }
+returns-in-Date-clause-bits c = elim c.in-Date.is [
+  | inl e ↦ rw e c.date_group.ensures.bits
+  | inr w ↦ rw w.1 c.date_group.ensures.bits
+]
+
+pub returns-in-Time-clause-bits : goal.returns-in-Time-clause-bits
+unfolding date_of layout
+returns-in-Time-clause-bits c = rw c.in-Time.is c.nothing.ensures.bits

@@ -3,47 +3,28 @@ use Rattle.fields.specs.Fields.{width, binary_digits, field_bits}
 use Rattle.rows.specs.Fields.{day_fields}
 use Rattle.fields.specs.Fields.{layout}
 use Rattle.packing.proofs.Laws.Groups.{one_field, two_fields}
-use borrow.Author.Rules.{rules}
 use Rattle.packing.proofs.dates.day_group.Goals as goal
 
-pub returns-in-Y : goal.returns-in-Y
+pub returns-in-Y-clause-bits : goal.returns-in-Y-clause-bits
 unfolding day_fields layout
-returns-in-Y c = record {
-  result_value = rw c.in-Y.is c.nothing.ensures.result_value;
-  fits = search rules;
-}
+returns-in-Y-clause-bits c = rw c.in-Y.is c.nothing.ensures.bits
 
-pub returns-in-YM : goal.returns-in-YM
+pub returns-in-YM-clause-bits : goal.returns-in-YM-clause-bits
 unfolding day_fields field_bits width binary_digits
-returns-in-YM c = record {
-  result_value = one_field (ap day_fields c.in-YM.is) c.from_one.ensures.result_value;
-  fits = search rules;
-}
+returns-in-YM-clause-bits c = one_field (ap day_fields c.in-YM.is) c.from_one.ensures.bits
 
-pub returns-in-YMD : goal.returns-in-YMD
+pub returns-in-YMD-clause-bits : goal.returns-in-YMD-clause-bits
 unfolding day_fields field_bits width binary_digits
-returns-in-YMD c = let e = ap day_fields c.in-YMD.is in record {
-  result_value = two_fields e c.join.ensures.result_value c.from_one-in-YMD.ensures.result_value c.from_one-in-YMD-2.ensures.result_value;
-  fits = search rules;
-}
+returns-in-YMD-clause-bits c = let e = ap day_fields c.in-YMD.is in two_fields e c.join.ensures.bits c.from_one-in-YMD.ensures.bits c.from_one-in-YMD-2.ensures.bits
 
-pub returns-in-YD : goal.returns-in-YD
+pub returns-in-YD-clause-bits : goal.returns-in-YD-clause-bits
 unfolding day_fields field_bits width binary_digits
-returns-in-YD c = record {
-  result_value = one_field (ap day_fields c.in-YD.is) c.from_one-in-YD.ensures.result_value;
-  fits = search rules;
-}
+returns-in-YD-clause-bits c = one_field (ap day_fields c.in-YD.is) c.from_one-in-YD.ensures.bits
 
-pub returns-in-YW : goal.returns-in-YW
+pub returns-in-YW-clause-bits : goal.returns-in-YW-clause-bits
 unfolding day_fields field_bits width binary_digits
-returns-in-YW c = record {
-  result_value = one_field (ap day_fields c.in-YW.is) c.from_one-in-YW.ensures.result_value;
-  fits = search rules;
-}
+returns-in-YW-clause-bits c = one_field (ap day_fields c.in-YW.is) c.from_one-in-YW.ensures.bits
 
-pub returns-in-YWD : goal.returns-in-YWD
+pub returns-in-YWD-clause-bits : goal.returns-in-YWD-clause-bits
 unfolding day_fields field_bits width binary_digits
-returns-in-YWD c = let e = ap day_fields c.in-YWD.is in record {
-  result_value = two_fields e c.join-in-YWD.ensures.result_value c.from_one-in-YWD.ensures.result_value c.from_one-in-YWD-2.ensures.result_value;
-  fits = search rules;
-}
+returns-in-YWD-clause-bits c = let e = ap day_fields c.in-YWD.is in two_fields e c.join-in-YWD.ensures.bits c.from_one-in-YWD.ensures.bits c.from_one-in-YWD-2.ensures.bits

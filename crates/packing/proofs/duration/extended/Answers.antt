@@ -1,30 +1,19 @@
-use native.Mathlib.Omega.{arith}
 use Rattle.fields.specs.Fields.{width, binary_digits, field_bits}
 use Rattle.packing.proofs.Laws.Groups.{two_fields}
 use Rattle.packing.proofs.Laws.Durations.{number_below, number_inside, number_above}
-use borrow.Author.Rules.{rules}
 use Rattle.packing.proofs.duration.extended.Goals as goal
+use Rattle.packing.proofs.duration.extended.Goals.{else-range-number-via-then-range-number+else-number-range, else-range-number-via-else-range-number}
 
-pub returns-then-number-lowest : goal.returns-then-number-lowest
+pub returns-then-number-range-clause-bits : goal.returns-then-number-range-clause-bits
 unfolding field_bits width binary_digits
-returns-then-number-lowest c = record {
-  result_value = two_fields (number_below _ _ _ c.if-number-lowest.true) c.join.ensures.result_value
-      c.field.ensures.result_value c.integer.ensures.result_value;
-  fits = search rules;
-}
+returns-then-number-range-clause-bits c =
+    let r = c.args.range in
+    let e = number_inside _ _ _ c.if-range-number.true c.if-number-range.true in
+    two_fields e c.join.ensures.bits c.field-inside.ensures.bits (rw (← c.requires.width) c.field.ensures.bits)
 
-pub returns-then-number-lowest-2 : goal.returns-then-number-lowest-2
+pub returns-clause-bits : goal.returns-clause-bits
 unfolding field_bits width binary_digits
-returns-then-number-lowest-2 c = let e = c.requires.count_value in record {
-  result_value = two_fields (number_inside _ _ _ (omega arith) (omega arith)) c.join-then-number-lowest-2.ensures.result_value
-      c.field-then-number-lowest-2.ensures.result_value (rw (← e) c.field-then-number-lowest-2-2.ensures.result_value);
-  fits = search rules;
-}
-
-pub returns : goal.returns
-unfolding field_bits width binary_digits
-returns c = record {
-  result_value = two_fields (number_above _ _ _ (omega arith) c.if-number-lowest-2.false) c.join-2.ensures.result_value
-      c.field-2.ensures.result_value c.integer-2.ensures.result_value;
-  fits = search rules;
-}
+returns-clause-bits c = two_fields (elim c.else-range-number.branch [
+  | else-range-number-via-then-range-number+else-number-range w ↦ number_above _ _ _ w.if-range-number.true w.if-number-range.false
+  | else-range-number-via-else-range-number w ↦ number_below _ _ _ w.if-range-number.false
+]) c.join-2.ensures.bits c.field-2.ensures.bits c.integer.ensures.bits

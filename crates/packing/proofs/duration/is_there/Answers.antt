@@ -1,4 +1,3 @@
-use native.Mathlib.Omega.{arith}
 use borrow.Author.Tests.{eq-eqb, ne_eqb, lt-ltb, le-ltb}
 use Rattle.packing.specs.Durations.{is_there}
 use Rattle.packing.proofs.duration.is_there.Goals as goal
@@ -7,12 +6,10 @@ pub returns-then-place-last : goal.returns-then-place-last
 unfolding is_there
 returns-then-place-last c = simp (eq-eqb _ _ c.if-place-last.true)
 
-pub returns-then-last-place : goal.returns-then-last-place
+pub returns-then-place-last-2 : goal.returns-then-place-last-2
 unfolding is_there
-returns-then-last-place c = simp (ne_eqb _ _ c.if-place-last.false, le-ltb c.args.place c.args.last (omega arith))
+returns-then-place-last-2 c = simp (ne_eqb _ _ c.if-place-last.false, lt-ltb _ _ c.if-place-last-2.true)
 
-pub returns : goal.returns
+pub returns-else-place-last-2 : goal.returns-else-place-last-2
 unfolding is_there
-returns c =
-    let a = c.args in
-    simp (ne_eqb _ _ c.if-place-last.false, lt-ltb a.place a.last (omega (arith, c.if-place-last.false)))
+returns-else-place-last-2 c = simp (ne_eqb _ _ c.if-place-last.false, le-ltb _ _ c.if-place-last-2.false)

@@ -1,9 +1,5 @@
 use Rattle.fields.proofs.Laws.Fields.{layout-append}
-use borrow.Author.Rules.{rules}
 use Rattle.packing.proofs.times.after_group.Goals as goal
 
-pub returns : goal.returns
-returns c = record {
-  result_value = rw (c.join.ensures.result_value, c.fraction_group.ensures.result_value, c.zone_group.ensures.result_value, layout-append);
-  fits = search rules;
-}
+pub returns-clause-bits : goal.returns-clause-bits
+returns-clause-bits c = rw (c.join.ensures.bits, c.fraction_group.ensures.bits, c.zone_group.ensures.bits, layout-append)

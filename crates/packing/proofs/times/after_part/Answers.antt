@@ -1,24 +1,15 @@
-use mathlib.Core.Path.{refl}
+use mathlib.Core.Logic.{inl, inr}
 use Rattle.fields.specs.Fields.{layout}
-use Rattle.packing.specs.Parts.{after_fields, after_of}
-use Rattle.packing.proofs.Laws.Parts.{taken}
-use borrow.Author.Rules.{rules}
+use Rattle.packing.specs.Parts.{after_of}
 use Rattle.packing.proofs.times.after_part.Goals as goal
-use Rattle.packing.proofs.times.after_part.Goals.{in-Time, in-DateTime}
 
-pub returns-in-Date : goal.returns-in-Date
+pub returns-in-Date-clause-bits : goal.returns-in-Date-clause-bits
 unfolding after_of layout
-returns-in-Date c = record {
-  result_value = rw c.in-Date.is c.nothing.ensures.result_value;
-  fits = search rules;
-}
+returns-in-Date-clause-bits c = rw c.in-Date.is c.nothing.ensures.bits
 
-pub returns : goal.returns
+pub returns-in-Time-clause-bits : goal.returns-in-Time-clause-bits
 unfolding after_of
-returns c = let e = c.after_group.ensures.result_value in record {
-  result_value = elim c.match-value.branch [
-    | in-Time w ↦ taken after_fields after_of e w.time-is w.in-Time.is refl
-    | in-DateTime w ↦ taken after_fields after_of e w.time-is w.in-DateTime.is refl
-  ];
-  fits = search rules;
-}
+returns-in-Time-clause-bits c = elim c.in-Time.is [
+  | inl e ↦ rw e c.after_group.ensures.bits
+  | inr w ↦ rw w.1 c.after_group.ensures.bits
+]

@@ -3,7 +3,7 @@ use Rattle.packing.proofs.times.hours_field.Goals as goal
 
 pub returns-then-behind : goal.returns-then-behind
 unfolding hours_field
-returns-then-behind c = rw c.if-behind.true c.minus.ensures
+returns-then-behind c = rw c.if-behind.true c.saturating_sub.ensures
 
 pub returns : goal.returns
 unfolding hours_field

@@ -1,25 +1,15 @@
+use mathlib.Core.Logic.{inl, inr}
 use Rattle.fields.specs.Fields.{layout}
 use Rattle.rows.specs.Fields.{zone_fields}
-use borrow.Author.Rules.{rules}
 use Rattle.packing.proofs.times.zone_group.Goals as goal
 
-pub returns-in-L : goal.returns-in-L
+pub returns-in-L-clause-bits : goal.returns-in-L-clause-bits
 unfolding zone_fields layout
-returns-in-L c = record {
-  result_value = rw c.in-L.is c.nothing.ensures.result_value;
-  fits = search rules;
-}
+returns-in-L-clause-bits c = elim c.in-L.is [
+  | inl e ↦ rw e c.nothing.ensures.bits
+  | inr e ↦ rw e c.nothing.ensures.bits
+]
 
-pub returns-in-Z : goal.returns-in-Z
-unfolding zone_fields layout
-returns-in-Z c = record {
-  result_value = rw c.in-Z.is c.nothing-in-Z.ensures.result_value;
-  fits = search rules;
-}
-
-pub returns-in-LD : goal.returns-in-LD
+pub returns-in-LD-clause-bits : goal.returns-in-LD-clause-bits
 unfolding zone_fields
-returns-in-LD c = record {
-  result_value = rw (c.in-LD.is, ← c.hours_field-hours.ensures) c.difference_group.ensures.result_value;
-  fits = search rules;
-}
+returns-in-LD-clause-bits c = rw (c.in-LD.is, ← c.hours_field-hours.ensures) c.difference_group.ensures.bits

@@ -1,45 +1,25 @@
-use mathlib.Core.Path.{◌≡◌, sym}
-use native.Mathlib.Numerals.{add-one}
+use mathlib.Core.Path.{sym}
 use native.Mathlib.Omega.{arith}
-use Rattle.reading.proofs.Laws.Places.{digit_at, digit_end, digit_high, digit_low, digits-small, digits-stop}
-use Rattle.texts.specs.Digits.{get_digits}
-use borrow.Author.Rules.{rules}
+use Rattle.std.proofs.lemmas.List.{get_or-take}
+use Rattle.reading.proofs.Laws.Digits.{digits-small, digits-stop, digits_length, drop_at}
 use Rattle.reading.proofs.text_fields.digits.Goals as goal
 
-pub loop-count-init : goal.loop-count-init
-unfolding get_digits
-loop-count-init c = search rules
+pub returns-in_err-front : goal.returns-in_err-front
+returns-in_err-front c = rw (c.from_residual.ensures, digits_length _ _ c.in_err-front.ensures.cases)
 
-pub returns-then-text-place : goal.returns-then-text-place
-returns-then-text-place c = sym (digits-stop _ _ _ _ _ c.loop-count.invariant.1 (digit_end _ _ _ c.if-text-place.true) c.loop-count-test.true)
-
-pub returns-then-c-lt48 : goal.returns-then-c-lt48
-returns-then-c-lt48 c =
-    let loop-test = c.loop-count-test in
-    let loop = c.loop-count in
-    sym (digits-stop _ _ _ _ _ loop.invariant.1 (digit_low _ _ _ c.if-text-place.false c.if-c-lt48.true) loop-test.true)
-
-pub returns-then-c-gt57 : goal.returns-then-c-gt57
-returns-then-c-gt57 c =
-    let loop-test = c.loop-count-test in
-    let loop = c.loop-count in
-    sym (digits-stop _ _ _ _ _ loop.invariant.1 (digit_high _ _ _ c.if-text-place.false c.if-c-gt57.true) loop-test.true)
+pub returns-then-not-is_ascii_digit : goal.returns-then-not-is_ascii_digit
+returns-then-not-is_ascii_digit c =
+    let s = c.in_ok-front.ensures.cases in
+    let at = drop_at c.args.text.now c.loop-c.c-index (omega (arith, s.0, s.3)) in
+    let octet = get_or-take c.args.width c.args.text.now c.loop-c.c-index 0 (omega (arith, s.3)) in
+    sym (digits-stop _ _ _ _ _ c.loop-c.invariant (rw (at, ← octet, ← s.1, ← c.if-not-is_ascii_digit.ensures.value)) (omega (arith, s.3)))
 
 pub overflow_mul-number : goal.overflow_mul-number
 overflow_mul-number c =
-    let loop = c.loop-count in
-    omega (arith, digits-small loop.count _ _ _ loop.invariant.1 (omega arith))
+    let s = c.in_ok-front.ensures.cases in
+    omega (arith, digits-small c.loop-c.c-index _ _ _ c.loop-c.invariant (omega (arith, s.3)))
 
 pub overflow_add-number : goal.overflow_add-number
 overflow_add-number c =
-    let loop = c.loop-count in
-    omega (arith, digits-small loop.count _ _ _ loop.invariant.1 (omega arith))
-
-pub loop-count-preserved : goal.loop-count-preserved
-unfolding get_digits
-loop-count-preserved c =
-    let loop = c.loop-count in
-    (omega arith, rw (add-one loop.count, loop.invariant.1) (digit_at _ _ _ c.if-text-place.false c.if-c-lt48.false c.if-c-gt57.false))
-
-pub returns : goal.returns
-returns c = let e : c.loop-count.count ≡ c.args.width = omega arith in rw (← e) (sym c.loop-count.invariant.1)
+    let s = c.in_ok-front.ensures.cases in
+    omega (arith, digits-small c.loop-c.c-index _ _ _ c.loop-c.invariant (omega (arith, s.3)), c.if-not-is_ascii_digit.ensures.bound)

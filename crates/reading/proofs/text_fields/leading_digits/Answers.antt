@@ -1,26 +1,16 @@
-use native.Mathlib.Omega.{arith}
-use Rattle.reading.proofs.Laws.Places.{leading_at, leading_end, leading_high, leading_low}
+use Rattle.std.proofs.Common.{◌∙◌, rules, tests}
+use Rattle.std.proofs.lemmas.Iterator.{YieldsList-from_slice}
+use Rattle.std.proofs.lemmas.Iterator.Consumers.{count_from_yields_List}
+use Rattle.std.proofs.lemmas.Iterator.Search.{YieldsList-from_take_while}
+use Rattle.std.proofs.lemmas.List.Folds.{length-prefix_len}
+use Rattle.std.specs.Char.{is_ascii_digit}
+use Rattle.reading.proofs.Laws.Digits.{prefix_leading}
 use Rattle.reading.proofs.text_fields.leading_digits.Goals as goal
 
-pub returns-then-c-lt48 : goal.returns-then-c-lt48
-returns-then-c-lt48 c =
-    let loop = c.loop-place in
-    let args = c.args in
-    omega (arith, loop.invariant.1, leading_low args.text.now loop.place c.loop-place-test.true c.if-c-lt48.true)
-
-pub returns-then-c-gt57 : goal.returns-then-c-gt57
-returns-then-c-gt57 c =
-    let loop-test = c.loop-place-test in
-    let loop = c.loop-place in
-    let args = c.args in
-    omega (arith, loop.invariant.1, leading_high args.text.now loop.place loop-test.true c.if-c-gt57.true)
-
-pub loop-place-preserved : goal.loop-place-preserved
-loop-place-preserved c =
-    let loop-test = c.loop-place-test in
-    let loop = c.loop-place in
-    let args = c.args in
-    (omega arith, omega (arith, loop.invariant.1, leading_at args.text.now loop.place loop-test.true c.if-c-lt48.false c.if-c-gt57.false))
-
 pub returns : goal.returns
-returns c = omega (arith, c.loop-place.invariant.1, leading_end c.args.text.now c.loop-place.place c.loop-place-test.false)
+returns c =
+    count_from_yields_List c.take_while.result _ c.count.ensures.ran
+    (YieldsList-from_take_while _ is_ascii_digit (YieldsList-from_slice c.args.text.now cc) c.take_while.ensures.closure c.take_while.ensures.done
+    (λ x b q k. search (rules, tests)))
+    ∙ length-prefix_len is_ascii_digit c.args.text.now
+    ∙ prefix_leading c.args.text.now

@@ -12,5 +12,5 @@ below-zero-is (suc k) h = ap negsuc (omega arith)
 pub returns-then-below : goal.returns-then-below
 returns-then-below c = rw c.if-below.true (year_is _ _ (c.before_zero.ensures ∙ below-zero-is _ (omega arith)))
 
-pub returns : goal.returns
-returns c = rw c.if-below.false (year_is _ _ c.since_zero.ensures)
+pub returns-else-below : goal.returns-else-below
+returns-else-below c = rw c.if-below.false (year_is _ _ c.since_zero.ensures)

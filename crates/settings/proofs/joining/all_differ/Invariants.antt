@@ -1,11 +1,11 @@
 use mathlib.Core.Path.{◌≡◌}
-use Prim.Native.Nat.{◌-◌}
-use lib.ListN.{drop, take}
+use lib.ListN.{length}
+use Rattle.std.specs.Prelude.{Some, map}
 use Rattle.type_texts.specs.TypeTexts.{distinct}
 use Rattle.settings.proofs.joining.all_differ.Given as goal
 
-abbrev pub invariant-loop-i : goal.invariant-loop-i
-invariant-loop-i l = distinct (take l.count l.items) ≡ distinct (drop l.i (take l.count l.items))
+abbrev pub invariant-loop-list : goal.invariant-loop-list
+invariant-loop-list l = distinct (map Some l.lists) ≡ distinct (map Some l.left)
 
-abbrev pub decreases-loop-i : goal.decreases-loop-i
-decreases-loop-i l = l.count - l.i
+abbrev pub decreases-loop-list : goal.decreases-loop-list
+decreases-loop-list l = length l.left

@@ -1,25 +1,15 @@
-use mathlib.Core.Path.{refl, sym, ◌∙◌}
-use native.Mathlib.Omega.{arith}
+use mathlib.Core.Path.{◌∙◌}
+use borrow.Author.Rules.{rules}
+use borrow.Author.Tests.{tests}
+use Rattle.std.specs.Prelude.{Some}
+use Rattle.std.proofs.lemmas.Iterator.{YieldsList-from_slice}
+use Rattle.std.proofs.lemmas.Iterator.Search.{all_from_yields_List}
 use Rattle.type_texts.specs.TypeTexts.{usable}
-use Rattle.type_texts.proofs.Laws.Walks.{all_end, all_hit, all_miss}
+use Rattle.type_texts.proofs.Laws.Walks.{all_of-is}
 use Rattle.settings.proofs.joining.all_usable.Goals as goal
-
-pub loop-i-init : goal.loop-i-init
-loop-i-init c = refl
-
-pub returns-then-not-is_usable : goal.returns-then-not-is_usable
-returns-then-not-is_usable c =
-    let lists = c.args.lists in
-    sym (c.loop-i.invariant ∙ all_hit lists c.loop-i.i c.requires (usable c.args.limits)
-    c.loop-i-test.true (sym c.is_usable.ensures ∙ c.if-not-is_usable.true))
-
-pub loop-i-preserved : goal.loop-i-preserved
-loop-i-preserved c =
-    let lists = c.args.lists in
-    c.loop-i.invariant ∙ all_miss lists c.loop-i.i c.requires (usable c.args.limits)
-    c.loop-i-test.true (sym c.is_usable.ensures ∙ c.if-not-is_usable.false)
 
 pub returns : goal.returns
 returns c =
-    let lists = c.args.lists in
-    sym (c.loop-i.invariant ∙ all_end lists c.loop-i.i c.requires (usable c.args.limits) (omega (arith, c.loop-i-test.false)))
+    all_from_yields_List (λ s. usable c.args.limits (Some s)) _ _ _ c.all.ensures.ran (YieldsList-from_slice c.args.lists.now cc)
+    (λ x b q k. search (rules, tests))
+    ∙ all_of-is (usable c.args.limits) c.args.lists.now

@@ -1,24 +1,16 @@
-use mathlib.Core.Path.{refl, sym, ◌∙◌}
-use native.Mathlib.Omega.{arith}
-use Rattle.type_texts.proofs.Laws.Walks.{named_end, named_hit, named_miss}
+use mathlib.Core.Path.{◌∙◌}
+use lib.Dec.{eqb}
+use borrow.Author.Rules.{rules}
+use borrow.Author.Tests.{tests}
+use Rattle.std.proofs.lemmas.Iterator.{YieldsList-from_slice}
+use Rattle.std.proofs.lemmas.Iterator.Search.{any_from_yields_List}
+use Rattle.std.specs.Prelude.{Some}
+use Rattle.lists.specs.Lists.{year_in}
+use Rattle.type_texts.proofs.Laws.Walks.{member-is}
 use Rattle.settings.proofs.joining.named_in.Goals as goal
-
-pub loop-i-init : goal.loop-i-init
-loop-i-init c = refl
-
-pub returns-then-item-number : goal.returns-then-item-number
-returns-then-item-number c =
-    let lists = c.args.lists in
-    sym (c.loop-i.invariant ∙ named_hit lists c.loop-i.i c.requires c.args.number
-    c.loop-i-test.true c.if-item-number.true)
-
-pub loop-i-preserved : goal.loop-i-preserved
-loop-i-preserved c =
-    let lists = c.args.lists in
-    c.loop-i.invariant ∙ named_miss lists c.loop-i.i c.requires c.args.number c.loop-i-test.true
-    c.if-item-number.false
 
 pub returns : goal.returns
 returns c =
-    let lists = c.args.lists in
-    sym (c.loop-i.invariant ∙ named_end lists c.loop-i.i c.requires c.args.number (omega (arith, c.loop-i-test.false)))
+    any_from_yields_List (λ s. eqb (year_in (Some s)) c.args.number) _ _ _ c.any.ensures.ran (YieldsList-from_slice c.args.lists.now cc)
+    (λ x b q k. search (rules, tests))
+    ∙ member-is c.args.number c.args.lists.now

@@ -1,46 +1,46 @@
-use mathlib.Core.Path.{◌∙◌, sym}
-use mathlib.Core.Bool.{false}
-use native.Mathlib.Omega.{arith}
-use lib.Seq.{length-take-le}
-use Rattle.type_texts.proofs.Laws.TypeTexts.{duration-found, few-joined, one_list, two-lists}
+use mathlib.Core.Path.{refl, sym, ap, ◌∙◌}
+use mathlib.Core.List.{[], ◌∷◌}
+use Rattle.types.specs.AnyTypes.{found_type}
+use Rattle.type_texts.proofs.Laws.TypeTexts.{few-kept, few-refused, one_list, one_unread, two-lists}
 use Rattle.settings.proofs.type_text.read_lists.Goals as goal
 
-pub returns-then-same : goal.returns-then-same
-returns-then-same c = rw (sym c.same.ensures ∙ c.if-same.true) (c.unlimited.ensures ∙ duration-found _ false)
+pub returns-in_default : goal.returns-in_default
+returns-in_default c =
+    rw (one_list _ _ c.find-bar.ensures c.if-end-bar.true, sym c.read_list.ensures ∙ c.in_default.is)
+    (sym (ap found_type (few-refused c.args.limits _ (one_unread [] _ _ refl))))
 
 pub returns-then-end-bar : goal.returns-then-end-bar
 returns-then-end-bar c =
+    rw (one_list _ _ c.find-bar.ensures c.if-end-bar.true, sym c.read_list.ensures ∙ c.in-Some.is) c.join.ensures
+
+pub returns-in_default-read_list : goal.returns-in_default-read_list
+returns-in_default-read_list c =
     rw (
-      sym c.same.ensures ∙ c.if-same.false,
-      one_list _ _ c.find-bar.ensures c.if-end-bar.true,
-      ← c.read_list.ensures,
+      two-lists _ _ _ c.find-bar.ensures c.if-end-bar.false c.find.ensures c.if-end-find.true,
+      sym c.read_list-then-end-find.ensures ∙ c.in_default-read_list.is,
     )
-    c.one_list.ensures
+    (sym (ap found_type (few-refused c.args.limits _ (one_unread [] _ _ refl))))
 
-pub join-requires : goal.join-requires
-join-requires c = c.read_all.ensures.sound
-
-pub returns-then-find-end : goal.returns-then-find-end
-returns-then-find-end c =
+pub returns-in_default-read_list-2 : goal.returns-in_default-read_list-2
+returns-in_default-read_list-2 c =
     rw (
-      sym c.same.ensures ∙ c.if-same.false,
-      ← few-joined,
-      ← c.read_all.ensures.result_value,
+      two-lists _ _ _ c.find-bar.ensures c.if-end-bar.false c.find.ensures c.if-end-find.true,
+      sym c.read_list-then-end-find.ensures ∙ c.in-Some-read_list.is,
+      sym c.read_list-then-end-find-2.ensures ∙ c.in_default-read_list-2.is,
     )
-    c.join.ensures
+    (sym (ap found_type (few-refused c.args.limits _ (one_unread (c.in-Some-read_list.list ∷ []) _ _ refl))))
 
-pub slice_bounds-read_list-end : goal.slice_bounds-read_list-end
-slice_bounds-read_list-end c = sym (length-take-le _ _ (omega arith))
+pub returns-then-end-find : goal.returns-then-end-find
+returns-then-end-find c =
+    rw (
+      two-lists _ _ _ c.find-bar.ensures c.if-end-bar.false c.find.ensures c.if-end-find.true,
+      sym c.read_list-then-end-find.ensures ∙ c.in-Some-read_list.is,
+      sym c.read_list-then-end-find-2.ensures ∙ c.in-Some-read_list-2.is,
+    )
+    c.join-then-end-find.ensures
+
+pub returns-in_default-read_all : goal.returns-in_default-read_all
+returns-in_default-read_all c = sym (ap found_type (few-refused c.args.limits _ (sym c.in_default-read_all.ensures)))
 
 pub returns : goal.returns
-returns c =
-    rw (
-      sym c.same.ensures
-          ∙ c.if-same.false,
-      two-lists _ _ _ c.find-bar.ensures
-          c.if-end-bar.false c.find.ensures
-          c.if-find-end.false,
-      ← c.read_list-2.ensures,
-      ← c.read_list-3.ensures,
-    )
-    c.two_lists.ensures
+returns c = rw (← (few-kept _ _ (sym c.in-Some-read_all.ensures)).0, ← c.deref.ensures.0) c.join-2.ensures

@@ -35,4 +35,4 @@ returns c =
       sym c.same-2.ensures ∙ c.if-same-2.false,
       sym c.same-3.ensures ∙ c.if-same-3.false,
     )
-    c.read_lists.ensures
+    c.read_other.ensures

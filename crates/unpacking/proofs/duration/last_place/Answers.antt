@@ -2,7 +2,7 @@ use Rattle.unpacking.proofs.Laws.Presences.{last_told}
 use Rattle.unpacking.proofs.duration.last_place.Goals as goal
 
 pub overflow_sub-result : goal.overflow_sub-result
-overflow_sub-result c = (last_told _ c.requires.bits_bound c.requires.bound).0
+overflow_sub-result c = (last_told _ c.requires.octet c.requires.component).0
 
 pub returns : goal.returns
-returns c = (last_told _ c.requires.bits_bound c.requires.bound).1
+returns c = (last_told _ c.requires.octet c.requires.component).1

@@ -1,6 +1,6 @@
 use mathlib.Core.Path.{◌≡◌}
 use mathlib.Core.List.{◌++◌}
-use Prim.Native.Nat.{◌+◌, ◌-◌, ◌*◌, ◌≤◌}
+use Prim.Native.Nat.{◌+◌, ◌*◌, ◌≤◌}
 use lib.ListN.{length, take, drop}
 use Rattle.octets.specs.Found.{found, onward}
 use Rattle.fields.specs.Readings.{run}
@@ -14,13 +14,10 @@ use Rattle.unpacking.proofs.duration.numbers.Given as goal
 
 abbrev pub invariant-loop-place : goal.invariant-loop-place
 invariant-loop-place l = record {
-  top : l.place ≤ 7;
   near : l.at.count ≤ 8 + 41 * l.place;
   count : length l.values ≡ 7;
-  left : after_presences l.octets (read_numbers roots (bits_in l.bits))
-      ≡ onward (run (read_numbers (drop l.place roots) (drop l.place (bits_in l.bits))) (rest l.octets l.at)) (λ ps u. found (parts_to l.place (bits_in l.bits) l.values ++ ps) u);
-  zeros : numbersIn (parts_to l.place (bits_in l.bits) l.values) ≡ take l.place l.values;
+  left : after_presences l.fn.octets (read_numbers roots (bits_in l.fn.bits))
+      ≡ onward (run (read_numbers (drop l.place roots) (drop l.place (bits_in l.fn.bits))) (rest l.fn.octets l.at))
+      (λ ps u. found (parts_to l.place (bits_in l.fn.bits) l.values ++ ps) u);
+  zeros : numbersIn (parts_to l.place (bits_in l.fn.bits) l.values) ≡ take l.place l.values;
 }
-
-abbrev pub decreases-loop-place : goal.decreases-loop-place
-decreases-loop-place l = 7 - l.place

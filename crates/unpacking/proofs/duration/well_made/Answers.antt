@@ -8,5 +8,5 @@ returns-then-components-eq0 c = rw (made_told _ c.requires, eq-eqb _ _ c.if-comp
 pub returns-then-components-eq16 : goal.returns-then-components-eq16
 returns-then-components-eq16 c = rw (made_told _ c.requires, ne_eqb _ _ c.if-components-eq0.false, eq-eqb _ _ c.if-components-eq16.true)
 
-pub returns : goal.returns
-returns c = rw (made_told _ c.requires, ne_eqb _ _ c.if-components-eq0.false, ne_eqb _ _ c.if-components-eq16.false)
+pub returns-else-components-eq16 : goal.returns-else-components-eq16
+returns-else-components-eq16 c = rw (made_told _ c.requires, ne_eqb _ _ c.if-components-eq0.false, ne_eqb _ _ c.if-components-eq16.false)

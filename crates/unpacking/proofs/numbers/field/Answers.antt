@@ -8,6 +8,7 @@ use Rattle.fields.specs.Bits.{number_in}
 use Rattle.unpacking.proofs.Laws.Numbers.{carried, field_of, filled_up}
 use Rattle.unpacking.proofs.Laws.Steps.{bits-short, bits_there}
 use Rattle.unpacking.specs.Steps.{rest}
+use borrow.Author.Rules.{rules}
 use Rattle.unpacking.proofs.numbers.field.Goals as goal
 use Rattle.unpacking.proofs.numbers.field.Goals.{After-octets-with_all, After-power}
 
@@ -37,9 +38,11 @@ value-is c =
 
 pub returns-then-octets-with_all : goal.returns-then-octets-with_all
 returns-then-octets-with_all c = let a = c.args in
-    let h : 8 * length a.octets.now < a.at.count + a.width.count = omega (arith, counts (goal.at.returns-then-octets-with_all c).After-octets-with_all) in record {
-      result_value = sym (bits-short a.octets.now a.at a.width.count h (omega arith));
-      result_bound = omega (arith, pow_pos a.width.count);
+    let h : 8 * length a.octets.now < a.at.count + a.width.count = omega (arith, counts (goal.at.returns-then-octets-with_all c).After-octets-with_all) in
+    record {
+      value = sym (bits-short a.octets.now a.at a.width.count h c.requires.some_bits);
+      number = search rules;
+      end = search rules;
     }
 
 pub overflow_sub-first : goal.overflow_sub-first
@@ -51,7 +54,7 @@ overflow_sub-count c = omega (arith, counts (goal.at.overflow_sub-count c).After
 pub gathered-number-requires : goal.gathered-number-requires
 gathered-number-requires c =
     let k = counts (goal.at.gathered-number-requires c).After-octets-with_all in
-    record { le_count = omega arith; count_in_bounds = omega arith }
+    record { some = omega arith; few = omega arith; in_bounds = omega arith }
 
 pub overflow_shr-result : goal.overflow_shr-result
 overflow_shr-result c = omega (arith, filled_up _ c.octets-with_all.ensures c.filling-after.ensures)
@@ -62,13 +65,19 @@ nonzero_rem-result c = rw c.power.ensures (pow_pos _)
 pub overflow_cast-result-2 : goal.overflow_cast-result-2
 overflow_cast-result-2 c =
     let a = c.args in
-    let w : a.width.count ≤ 32 = omega arith in
-    omega (arith, value-is (goal.at.overflow_cast-result-2 c).After-power, number_lt a.width.count (rest a.octets.now a.at), pow_mono {i = a.width.count} {j = 32} w)
+    omega (
+      arith,
+      value-is (goal.at.overflow_cast-result-2 c).After-power,
+      number_lt a.width.count (rest a.octets.now a.at),
+      pow_mono {i = a.width.count} {j = 32} c.requires.most_bits,
+    )
 
 pub returns : goal.returns
 returns c = let a = c.args in
-    let h : a.at.count + a.width.count ≤ 8 * length a.octets.now = omega
-    (arith, counts (goal.at.returns c).After-octets-with_all) in record {
-      result_value = rw (value-is (goal.at.returns c).After-power) (sym (bits_there a.octets.now a.at a.width.count h));
-      result_bound = (rw (value-is (goal.at.returns c).After-power) (number_lt _ _), omega arith);
+    let v = value-is (goal.at.returns c).After-power in
+    let h : a.at.count + a.width.count ≤ 8 * length a.octets.now = omega (arith, counts (goal.at.returns c).After-octets-with_all) in
+    record {
+      value = rw v (sym (bits_there a.octets.now a.at a.width.count h));
+      number = rw v (number_lt _ _);
+      end = search rules;
     }

@@ -1,41 +1,27 @@
 use mathlib.Core.Path.{◌≡◌}
-use Prim.Native.Nat.{ℕ, suc, ◌-◌, ◌^◌, ◌≤◌, ◌<◌}
+use Prim.Native.Nat.{ℕ, suc, ◌*◌, ◌-◌, ◌^◌, ◌≤◌, ◌<◌}
 use native.Mathlib.Omega.{arith}
-use lib.IntN.{pos, negsuc, neg_ℤ}
 use lib.Pow.{pow_mono, pow_pos}
+use native.Mathlib.Nat.{pow-suc}
 use borrow.Author.Tests.{lt-ltb, le-ltb}
+use Rattle.std.proofs.lemmas.Int.{ints}
 use Rattle.unpacking.specs.Steps.{signed_of}
 use Rattle.unpacking.proofs.numbers.signed.Goals as goal
-use Rattle.unpacking.proofs.numbers.signed.Goals.{Else-number-power}
 
--- the number is at least the half of the power
-high : (c : Else-number-power) → let a = c.args in 2 ^ (a.width.count - 1) ≤ a.number
-high c = rw (← c.power.ensures) c.if-number-power.false
+doubled : (w v : ℕ) → w ≡ suc v → 2 ^ w ≡ 2 * 2 ^ v
+doubled w v e = rw e (omega (arith, pow-suc 2 v))
 
-negated : (n m : ℕ) → n ≡ suc m → neg_ℤ (pos n) ≡ negsuc m
-negated n m e = rw e
-
-pub returns-then-number-power : goal.returns-then-number-power
+pub returns-then-from-power : goal.returns-then-from-power
 unfolding signed_of
-returns-then-number-power c = let a = c.args in
-    let h : a.number < 2 ^ (a.width.count - 1) = rw (← c.power.ensures) c.if-number-power.true in record {
-      result_value = simp (lt-ltb _ _ h);
-      bound = omega arith;
-    }
-
-pub overflow_sub-result : goal.overflow_sub-result
-overflow_sub-result c = omega (arith, c.power-2.ensures)
-
-pub overflow_cast-result-2 : goal.overflow_cast-result-2
-overflow_cast-result-2 c =
+returns-then-from-power c =
     let w = c.args.width.count in
-    let l : w ≤ 32 = omega arith in
-    omega (arith, c.power-2.ensures, high (goal.at.overflow_cast-result-2 c).Else-number-power, pow_pos (w - 1), pow_mono {i = w} {j = 32} l)
+    let h : c.args.number < 2 ^ (w - 1) = omega (arith, c.from.ensures, c.power.ensures) in
+    simp (lt-ltb _ _ h) (omega (arith, ints, pow_mono {i = w - 1} {j = 31} (omega arith)))
 
 pub returns : goal.returns
 unfolding signed_of
-returns c = let a = c.args in
-    let e : c.power-2.result - a.number ≡ suc (2 ^ a.width.count - suc a.number) = omega (arith, c.power-2.ensures) in record {
-      result_value = simp (le-ltb _ _ (high (goal.at.returns c).Else-number-power)) (negated _ _ e);
-      bound = omega arith;
-    }
+returns c =
+    let w = c.args.width.count in
+    let h : 2 ^ (w - 1) ≤ c.args.number = omega (arith, c.from.ensures, c.power.ensures) in
+    simp (le-ltb _ _ h)
+    (omega (arith, ints, c.from-2.ensures, c.power-2.ensures, doubled w (w - 1) (omega arith), pow_pos (w - 1), pow_mono {i = w} {j = 32} (omega arith)))

@@ -7,17 +7,18 @@ use mir.Syntax.{w32, w64}
 use mir.Val.{SFits, to_z, of_z}
 use mir.ValLaws.{to_z-of_z, to_z_pos}
 use Rattle.calendar.specs.Years.{astronomical_of}
-use Rattle.calendar.specs.declared.years.Astronomical.{Astronomical}
+use Rattle.std.specs.Prelude.{Some}
 use Rattle.calendar.specs.declared.years.Year.{Year}
 use Rattle.calendar.proofs.Laws.Years.{zero_year, in32-within, in32_outside, size_within, size_below, size_above}
 use Rattle.calendar.proofs.years.Year.astronomical.Goals as goal
-use Rattle.calendar.proofs.years.Year.astronomical.Goals.{Else-number-gt-HIGHEST}
+use Rattle.calendar.proofs.years.Year.astronomical.Goals.{Else-number-gt-HIGHEST, then-number-lt-LOWEST-via-then-number-lt-LOWEST, then-number-lt-LOWEST-via-else-number-lt-LOWEST+then-number-gt-HIGHEST}
 
 pub returns-then-number-lt-LOWEST : goal.returns-then-number-lt-LOWEST
-returns-then-number-lt-LOWEST c = sym (in32_outside _ (size_below c.args.self (omega arith)))
-
-pub returns-then-number-gt-HIGHEST : goal.returns-then-number-gt-HIGHEST
-returns-then-number-gt-HIGHEST c = sym (in32_outside _ (size_above c.args.self (omega arith)))
+returns-then-number-lt-LOWEST c = sym (in32_outside _
+    (elim c.then-number-lt-LOWEST.branch [
+      | then-number-lt-LOWEST-via-then-number-lt-LOWEST w ↦ size_below c.args.self (omega arith)
+      | then-number-lt-LOWEST-via-else-number-lt-LOWEST+then-number-gt-HIGHEST w ↦ size_above c.args.self (omega arith)
+    ]))
 
 -- what the machine subtracts from is the number, and what it gets is the year, which fits
 module _ (c : Else-number-gt-HIGHEST) where
@@ -47,4 +48,4 @@ pub overflow_cast-result-3 : goal.overflow_cast-result-3
 overflow_cast-result-3 c = subst (SFits w32) (sym (back (goal.at.overflow_cast-result-3 c).Else-number-gt-HIGHEST)) (fits (goal.at.overflow_cast-result-3 c).Else-number-gt-HIGHEST)
 
 pub returns : goal.returns
-returns c = ap Astronomical.Within (to_z-of_z w32 _ (overflow_cast-result-3 c) ∙ back (goal.at.returns c).Else-number-gt-HIGHEST) ∙ sym (in32-within _ (size (goal.at.returns c).Else-number-gt-HIGHEST))
+returns c = ap Some (to_z-of_z w32 _ (overflow_cast-result-3 c) ∙ back (goal.at.returns c).Else-number-gt-HIGHEST) ∙ sym (in32-within _ (size (goal.at.returns c).Else-number-gt-HIGHEST))

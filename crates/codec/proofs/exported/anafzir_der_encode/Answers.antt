@@ -1,4 +1,0 @@
-use Rattle.codec.proofs.exported.anafzir_der_encode.Goals as goal
-
-pub returns : goal.returns
-returns c = c.answer_to_c.ensures

@@ -1,4 +1,0 @@
-use Rattle.codec.proofs.exported.anafzir_per_decode.Goals as goal
-
-pub returns : goal.returns
-returns c = c.answer_to_c.ensures

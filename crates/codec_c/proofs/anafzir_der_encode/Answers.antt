@@ -1,0 +1,4 @@
+use Rattle.codec_c.proofs.anafzir_der_encode.Goals as goal
+
+pub returns : goal.returns
+returns c = c.answer_to_c.ensures

@@ -1,2 +1,0 @@
--- What the functions behind a reply promise each other.
-pub mod Steps

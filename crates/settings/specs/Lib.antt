@@ -1,0 +1,2 @@
+-- What the functions that join lists promise each other.
+pub mod Joined
