@@ -1,2 +1,3 @@
 -- What the functions of the program promise each other.
 pub mod Unfinished
+pub mod Output

@@ -100,17 +100,20 @@ fn signed(number: u32, width: Bits) -> i32
     (i64::from(number) - power(width.count) as i64) as i32
 }
 
-// An unconstrained whole number, or free integer: its length, 1 to 4 octets, and then its bits.
+// An unconstrained whole number, or free integer: its length, 1 to 4, each of which has its width, and then its bits.
 pub(crate) fn free(octets: &[u8], at: Bits) -> Option<(i32, Bits)>
     requires { at.count ≤ 900 }
     ensures value { seen octets.now result ≡ run a_free (rest octets.now at) }
     ensures end { IfSome result (λ r. r.1.count ≤ at.count + 40) }
 {
     let (length, next) = field(octets, at, Bits { count: 8 })?;
-    if length < 1 || 4 < length {
-        return None;
-    }
-    let width = Bits { count: 8 * length };
+    let width = match length {
+        1 => Bits { count: 8 },
+        2 => Bits { count: 16 },
+        3 => Bits { count: 24 },
+        4 => Bits { count: 32 },
+        _ => return None,
+    };
     let (number, end) = field(octets, next, width)?;
     Some((signed(number, width), end))
 }

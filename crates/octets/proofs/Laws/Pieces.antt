@@ -31,6 +31,20 @@ module _ (c : ℕ) (s : List ℕ) (i : ℕ) where
   unfolding span_to
   span_end h = rw (drop_of_length-le s h)
 
+-- Four octets more stand before the octet c where none of the next four is it.
+pub span_four : (c : ℕ) (s : List ℕ) (i : ℕ) → i + 3 < length s → (get_or s i 0 ≡ c → ⊥) → (get_or s (i + 1) 0 ≡ c → ⊥) →
+    (get_or s (i + 2) 0 ≡ c → ⊥) →
+    (get_or s (i + 3) 0 ≡ c → ⊥) →
+    span_to c (drop i s) ≡ 4 + span_to c (drop (i + 4) s)
+span_four c s i h e f g k =
+    let l = span_miss c s i (omega arith) e in
+    let m = next (i + 1) (i + 2) (omega arith) (omega arith) f in
+    let n = next (i + 2) (i + 3) (omega arith) (omega arith) g in
+    omega (arith, l, m, n, next (i + 3) (i + 4) (omega arith) h k)
+  where
+    next : (m n : ℕ) → m + 1 ≡ n → m < length s → (get_or s m 0 ≡ c → ⊥) → span_to c (drop m s) ≡ suc (span_to c (drop n s))
+    next m n e h f = span_miss c s m h f ∙ ap (λ (o : ℕ). suc (span_to c (drop o s))) e
+
 -- No more octets stand before the octet c than there are.
 pub span_le : (c : ℕ) (l : List ℕ) → span_to c l ≤ length l
 unfolding span_to
